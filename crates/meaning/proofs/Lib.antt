@@ -1,0 +1,4 @@
+pub mod All
+pub mod Lists
+pub mod Tests
+pub mod Bench

@@ -1,0 +1,106 @@
+-- Laws of tests: a list of tests taken apart, a test at each place of a table, and the first check that fails.
+use Prim.Native.Nat.{ℕ, zero, suc, _+_, _≤_, _<_}
+use native.Mathlib.Omega.{arith}
+use native.Mathlib.Decide.{ℕ-discrete}
+use mathlib.Core.Path.{_≡_, refl, sym, ap, _∙_}
+use mathlib.Core.Logic.{_⊎_, inl, inr}
+use mathlib.Core.Bool.{Bool, true, false, _&&_, _||_, not, false≢true}
+use mathlib.Core.List.{List, [], _∷_, _++_}
+use lib.ListN.{length, getD}
+use lib.Dec.{eqb}
+use borrow.Author.Tests.{eqb-true, eq-eqb}
+use Rattle.meaning.specs.Octets.{same, blank, every, below, implies, octet, zeros}
+use Rattle.meaning.specs.Checks.{Checks, passed, check, firstFailed}
+
+-- ---- both, either, and where
+
+pub and-left : (a b : Bool) → (a && b) ≡ true → a ≡ true
+and-left true b e = refl
+and-left false b e = absurd (false≢true e)
+
+pub and-right : (a b : Bool) → (a && b) ≡ true → b ≡ true
+and-right true b e = e
+and-right false b e = absurd (false≢true e)
+
+pub and-both : {a b : Bool} → a ≡ true → b ≡ true → (a && b) ≡ true
+and-both e f = rw (e, f)
+
+pub or-cases : (a b : Bool) → (a || b) ≡ true → (a ≡ true) ⊎ (b ≡ true)
+or-cases true b e = inl refl
+or-cases false b e = inr e
+
+pub implies-of : (a b : Bool) → (a ≡ true → b ≡ true) → implies a b ≡ true
+unfolding implies
+implies-of true b f = f refl
+implies-of false b f = refl
+
+pub implied : (a b : Bool) → implies a b ≡ true → a ≡ true → b ≡ true
+unfolding implies
+implied true b e h = e
+implied false b e h = absurd (false≢true h)
+
+-- ---- a list of tests
+
+pub every-at : (bs : List Bool) (i : ℕ) → every bs ≡ true → getD bs i true ≡ true
+unfolding every
+every-at [] i e = refl
+every-at (b ∷ bs) zero e = and-left b (every bs) e
+every-at (b ∷ bs) (suc i) e = every-at bs i (and-right b (every bs) e)
+
+-- ---- a test at each place
+
+pub below-at : (n : ℕ) (f : ℕ → Bool) → below n f ≡ true → (k : ℕ) → k < n → f k ≡ true
+unfolding below
+below-at zero f e k h = absurd (omega arith)
+below-at (suc n) f e k h = at (ℕ-discrete k n) (λ l. below-at n f (and-left (below n f) (f n) e) k l)
+  where
+    at : Dec (k ≡ n) → (k < n → f k ≡ true) → f k ≡ true
+    at (yes p) ih = ap f p ∙ and-right (below n f) (f n) e
+    at (no p) ih = ih (omega arith)
+
+pub below-all : (n : ℕ) (f : ℕ → Bool) → ((k : ℕ) → k < n → f k ≡ true) → below n f ≡ true
+unfolding below
+below-all zero f h = refl
+below-all (suc n) f h = and-both (below-all n f (λ k l. h k (omega arith))) (h n (omega arith))
+
+-- ---- same octets, zero octets
+
+pub same-true : (a b : List ℕ) → same a b ≡ true → a ≡ b
+unfolding same
+same-true [] [] e = refl
+same-true [] (y ∷ b) e = absurd (false≢true e)
+same-true (x ∷ a) [] e = absurd (false≢true e)
+same-true (x ∷ a) (y ∷ b) e =
+    let h : x ≡ y = eqb-true x y (and-left _ _ e) in
+    rw (h, same-true a b (and-right (eqb x y) _ e))
+
+pub same-refl : (a : List ℕ) → same a a ≡ true
+unfolding same
+same-refl [] = refl
+same-refl (x ∷ a) = and-both (eq-eqb x x refl) (same-refl a)
+
+pub blank-zeros : (n : ℕ) → blank (zeros n) ≡ true
+unfolding blank
+blank-zeros zero = refl
+blank-zeros (suc n) = blank-zeros n
+
+pub blank-octet : (s : List ℕ) (i : ℕ) → blank s ≡ true → octet s i ≡ 0
+unfolding blank
+blank-octet [] i e = refl
+blank-octet (x ∷ s) zero e = eqb-true x 0 (and-left _ _ e)
+blank-octet (x ∷ s) (suc i) e = blank-octet s i (and-right (eqb x 0) _ e)
+
+-- ---- the first check that fails
+
+pub first-passed : (n : ℕ) (b : Bool) (cs : Checks) → firstFailed (check (suc n) b cs) ≡ 0 → (b ≡ true) × (firstFailed cs ≡ 0)
+unfolding firstFailed
+first-passed n true cs e = (refl, e)
+first-passed n false cs e = absurd (omega arith)
+
+pub first-pass : (n : ℕ) (b : Bool) (cs : Checks) → b ≡ true → firstFailed cs ≡ 0 → firstFailed (check n b cs) ≡ 0
+unfolding firstFailed
+first-pass n b cs e f = rw e f
+
+pub all-passed : firstFailed passed ≡ 0
+unfolding firstFailed
+all-passed = refl

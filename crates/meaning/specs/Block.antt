@@ -1,0 +1,122 @@
+-- The values' rules, the two sums over a block, and a block's form and fit.
+use Prim.Native.Nat.{ℕ, zero, suc, _+_, _-_, _*_, _/_, _%_}
+use mathlib.Core.Bool.{Bool, true, false, _&&_}
+use mathlib.Core.List.{List, [], _∷_, _++_}
+use lib.ListN.{length, take, drop}
+use lib.Dec.{eqb, leb, ltb}
+use Rattle.meaning.specs.Octets.{octet, at32, be16, part, every}
+use Rattle.meaning.specs.Table.{Rule, free, within, time, entries, ratio, running, Row}
+
+-- the number that octets spell, the high octet first
+unfoldable pub numberFrom : ℕ → List ℕ → ℕ
+numberFrom n [] = n
+numberFrom n (x ∷ xs) = numberFrom (n * 256 + x) xs
+
+unfoldable pub number : List ℕ → ℕ
+number v = numberFrom 0 v
+
+-- ---- AdminBaseTime: seconds (6), nanoseconds (4) under 1,000,000,000
+
+unfoldable pub timeOk : List ℕ → Bool
+timeOk v = ltb (at32 v 6) 1000000000
+
+-- ---- AdminControlList: entries of 7, each an operation 0, 1 or 2; the octet 5; gate states; interval in nanoseconds (4), not 0
+
+-- the first n entries
+unfoldable pub cutIn : ℕ → List ℕ → List (List ℕ)
+cutIn zero v = []
+cutIn (suc n) v = take 7 v ∷ cutIn n (drop 7 v)
+
+unfoldable pub entriesOf : List ℕ → List (List ℕ)
+entriesOf v = cutIn (length v / 7) v
+
+unfoldable pub interval : List ℕ → ℕ
+interval e = at32 e 3
+
+unfoldable pub entryOk : List ℕ → Bool
+entryOk e = every (leb (octet e 0) 2 ∷ eqb (octet e 1) 5 ∷ leb 1 (interval e) ∷ [])
+
+unfoldable pub eachOk : List (List ℕ) → Bool
+eachOk [] = true
+eachOk (e ∷ es) = entryOk e && eachOk es
+
+unfoldable pub listOk : List ℕ → Bool
+listOk v = eqb (length v % 7) 0 && eachOk (entriesOf v)
+
+-- the sum of the intervals
+unfoldable pub intervals : List (List ℕ) → ℕ
+intervals [] = 0
+intervals (e ∷ es) = interval e + intervals es
+
+-- ---- AdminCycleTime: numerator (4), denominator (4) not 0
+
+unfoldable pub ratioOk : List ℕ → Bool
+ratioOk v = leb 1 (at32 v 4)
+
+-- the cycle in nanoseconds, rounded down
+unfoldable pub cycle : List ℕ → ℕ
+cycle v = at32 v 0 * 1000000000 / at32 v 4
+
+-- ---- the two sums: the first adds each octet, the second the first sum after each octet; both wrap at 65,536
+
+pub record Sums : Type 0 where
+  pub first : ℕ
+  pub second : ℕ
+
+unfoldable pub sumsFrom : ℕ → ℕ → List ℕ → Sums
+sumsFrom a b [] = record { first = a; second = b }
+sumsFrom a b (x ∷ xs) =
+    let a′ = (a + x) % 65536 in
+    sumsFrom a′ ((b + a′) % 65536) xs
+
+unfoldable pub sumsOf : List ℕ → Sums
+sumsOf s = sumsFrom 0 0 s
+
+-- a commit's value: first sum (2), second sum (2)
+unfoldable pub sums : List ℕ → List ℕ
+sums s = be16 (sumsOf s .first) ++ be16 (sumsOf s .second)
+
+-- ---- a block: the values of 0004 (10), 0005 (4), 0006 (7 n) and 0007 (8) joined, 22 + 7 n octets
+
+unfoldable pub joinedBlock : List ℕ → List ℕ → List ℕ → List ℕ → List ℕ
+joinedBlock base count list ratio′ = base ++ (count ++ (list ++ ratio′))
+
+unfoldable pub baseOf : List ℕ → List ℕ
+baseOf b = part b 0 10
+
+unfoldable pub countOf : List ℕ → List ℕ
+countOf b = part b 10 4
+
+unfoldable pub listOf : List ℕ → List ℕ
+listOf b = part b 14 (length b - 22)
+
+unfoldable pub ratioOf : List ℕ → List ℕ
+ratioOf b = part b (length b - 8) 8
+
+-- each value keeps its rule, 0005 holds n, n is at least 1, and the intervals fit the cycle
+unfoldable pub formAndFit : List ℕ → Bool
+formAndFit b =
+    let n = length (listOf b) / 7 in
+    every
+    (leb 22 (length b)
+    ∷ timeOk (baseOf b)
+    ∷ leb (number (countOf b)) 64
+    ∷ listOk (listOf b)
+    ∷ ratioOk (ratioOf b)
+    ∷ eqb (number (countOf b)) n
+    ∷ leb 1 n
+    ∷ leb (intervals (entriesOf (listOf b))) (cycle (ratioOf b))
+    ∷ [])
+
+-- ---- a value that a row permits: its length, and its rule
+
+unfoldable pub keeps : Rule → List ℕ → Bool
+keeps free v = true
+keeps (within a b) v = leb a (number v) && leb (number v) b
+keeps time v = timeOk v
+keeps entries v = listOk v
+keeps ratio v = ratioOk v
+keeps running v = formAndFit v
+
+unfoldable pub permits : Row → List ℕ → Bool
+permits r v = every (leb (r .least) (length v) ∷ leb (length v) (r .most) ∷ keeps (r .rule) v ∷ [])

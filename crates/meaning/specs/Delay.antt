@@ -1,0 +1,18 @@
+-- Whole nanoseconds to delay units, of which 65,536 make a nanosecond, and a delay's 8 octets with the LOW octet first.
+use Prim.Native.Nat.{ℕ, zero, suc, _-_, _*_, _/_, _%_, _^_}
+use mathlib.Core.Bool.{Bool, true, false, cond}
+use mathlib.Core.List.{List, [], _∷_}
+use lib.Dec.{ltb}
+
+-- 0 to 2^47 - 1 nanoseconds exactly; anything larger becomes the largest delay
+unfoldable pub units : ℕ → ℕ
+units n = cond (ltb n (2 ^ 47)) (n * 65536) (2 ^ 63 - 1)
+
+-- the k low octets of a number, the low octet first
+unfoldable pub lowFirst : ℕ → ℕ → List ℕ
+lowFirst zero n = []
+lowFirst (suc k) n = n % 256 ∷ lowFirst k (n / 256)
+
+-- what is stored for so many nanoseconds
+unfoldable pub delay : ℕ → List ℕ
+delay n = lowFirst 8 (units n)

@@ -1,0 +1,10 @@
+pub mod Octets
+pub mod Checks
+pub mod Table
+pub mod Block
+pub mod Memory
+pub mod Delay
+pub mod Operation
+pub mod Step
+pub mod Reply
+pub mod Calls

@@ -1,0 +1,155 @@
+-- Port memory: 19 cells of 6 octets, the two octets of the timer, 19 rooms; what sound means, fresh memory, an entry replaced.
+use Prim.Native.Nat.{ℕ, zero, suc, _+_, _-_, _*_, _/_, _%_}
+use mathlib.Core.Bool.{Bool, true, false, _&&_, cond}
+use mathlib.Core.List.{List, [], _∷_, _++_}
+use lib.ListN.{length, take, drop}
+use lib.Dec.{eqb, leb, ltb}
+use Rattle.meaning.specs.Octets.{octet, at16, be16, part, splice, zeros, blank, every, below, implies}
+use Rattle.meaning.specs.Table.{Row, rowAt, roomAt, byPort, entryCount, memoryLength, clockAt, gateEnabled, adminBaseTime, adminControlListLength, adminControlList, adminCycleTime, supportedListMax, commit}
+use Rattle.meaning.specs.Block.{permits}
+
+-- ---- a cell: name (2), flags (1), zero (1), length (2)
+
+abbrev pub cellAt : ℕ → ℕ
+cellAt k = 6 * k
+
+unfoldable pub cell : List ℕ → ℕ → List ℕ
+cell m k = part m (cellAt k) 6
+
+unfoldable pub room : List ℕ → ℕ → List ℕ
+room m k = part m (roomAt k) (rowAt k .most)
+
+-- flags: 1 present, 2 subscribed, 4 pending; no other bit
+unfoldable pub isPresent : List ℕ → Bool
+isPresent c = eqb (octet c 2 % 2) 1
+
+unfoldable pub isSubscribed : List ℕ → Bool
+isSubscribed c = eqb (octet c 2 / 2 % 2) 1
+
+unfoldable pub isPending : List ℕ → Bool
+isPending c = eqb (octet c 2 / 4 % 2) 1
+
+abbrev pub flagLimit : ℕ
+flagLimit = 8
+
+unfoldable pub size : List ℕ → ℕ
+size c = at16 c 4
+
+-- ---- what memory says of the parameter at place k
+
+unfoldable pub present : List ℕ → ℕ → Bool
+present m k = isPresent (cell m k)
+
+unfoldable pub subscribed : List ℕ → ℕ → Bool
+subscribed m k = isSubscribed (cell m k)
+
+unfoldable pub pending : List ℕ → ℕ → Bool
+pending m k = isPending (cell m k)
+
+unfoldable pub body : List ℕ → ℕ → List ℕ
+body m k = take (size (cell m k)) (room m k)
+
+-- ---- the timer: 0 idle or 1 waiting, then the expiries
+
+unfoldable pub clock : List ℕ → List ℕ
+clock m = part m clockAt 2
+
+unfoldable pub waiting : List ℕ → Bool
+waiting m = eqb (octet (clock m) 0) 1
+
+unfoldable pub expiries : List ℕ → ℕ
+expiries m = octet (clock m) 1
+
+-- ---- changes
+
+unfoldable pub bit : Bool → ℕ → ℕ
+bit true n = n
+bit false n = 0
+
+-- the flags present, subscribed and pending
+unfoldable pub flags : Bool → Bool → Bool → ℕ
+flags p s q = bit p 1 + bit s 2 + bit q 4
+
+unfoldable pub cellOf : ℕ → ℕ → ℕ → List ℕ
+cellOf k f n = be16 (rowAt k .name) ++ (f ∷ 0 ∷ be16 n)
+
+-- a value, and zeros to the end of its room
+unfoldable pub roomOf : ℕ → List ℕ → List ℕ
+roomOf k v = v ++ zeros (rowAt k .most - length v)
+
+unfoldable pub putCell : List ℕ → ℕ → ℕ → ℕ → List ℕ
+putCell m k f n = splice m (cellAt k) (cellOf k f n)
+
+unfoldable pub putRoom : List ℕ → ℕ → List ℕ → List ℕ
+putRoom m k v = splice m (roomAt k) (roomOf k v)
+
+-- an entry replaced: its flags, its length, its value in its own room
+unfoldable pub put : List ℕ → ℕ → ℕ → List ℕ → List ℕ
+put m k f v = putRoom (putCell m k f (length v)) k v
+
+-- a value made present, its marks as they were
+unfoldable pub store : List ℕ → ℕ → List ℕ → List ℕ
+store m k v = put m k (flags true (subscribed m k) (pending m k)) v
+
+-- other marks, presence and value as they were
+unfoldable pub remark : List ℕ → ℕ → Bool → Bool → List ℕ
+remark m k s q = putCell m k (flags (present m k) s q) (size (cell m k))
+
+unfoldable pub setClock : List ℕ → ℕ → ℕ → List ℕ
+setClock m w n = splice m clockAt (w ∷ n ∷ [])
+
+-- ---- sound memory
+
+-- the cell c and the room s are right for the row r
+unfoldable pub entrySound : Row → List ℕ → List ℕ → Bool
+entrySound r c s =
+    every
+    (eqb (at16 c 0) (r .name)
+    ∷ eqb (octet c 3) 0
+    ∷ ltb (octet c 2) flagLimit
+    ∷ implies (isPending c) (isSubscribed c && byPort (r .owner))
+    ∷ leb (size c) (r .most)
+    ∷ cond (isPresent c) (permits r (take (size c) s)) (eqb (size c) 0)
+    ∷ blank (drop (size c) s)
+    ∷ [])
+
+unfoldable pub entriesSound : List ℕ → Bool
+entriesSound m = below entryCount (λ k. entrySound (rowAt k) (cell m k) (room m k))
+
+-- 0004 to 0007 are all present
+unfoldable pub fourPresent : List ℕ → Bool
+fourPresent m =
+    every
+    (present m adminBaseTime
+    ∷ present m adminControlListLength
+    ∷ present m adminControlList
+    ∷ present m adminCycleTime
+    ∷ [])
+
+-- waiting with 0 to 4 expiries, or idle with none
+unfoldable pub clockSound : List ℕ → Bool
+clockSound c = cond (eqb (octet c 0) 1) (leb (octet c 1) 4) (eqb (octet c 0) 0 && eqb (octet c 1) 0)
+
+unfoldable pub sound : List ℕ → Bool
+sound m =
+    every
+    (eqb (length m) memoryLength
+    ∷ entriesSound m
+    ∷ present m gateEnabled
+    ∷ present m supportedListMax
+    ∷ implies (present m commit) (fourPresent m)
+    ∷ clockSound (clock m)
+    ∷ [])
+
+-- ---- fresh memory: 0003 holds 00, 000B holds 00000040, all else absent, unsubscribed and idle
+
+-- the first k entries named, and absent
+unfoldable pub absent : ℕ → List ℕ → List ℕ
+absent zero m = m
+absent (suc k) m = putCell (absent k m) k 0 0
+
+unfoldable pub fresh : List ℕ
+fresh =
+    put
+    (put (absent entryCount (zeros memoryLength)) gateEnabled (flags true false false) (0 ∷ []))
+    supportedListMax (flags true false false) (0 ∷ 0 ∷ 0 ∷ 64 ∷ [])

@@ -1,0 +1,74 @@
+-- The operations of a command, and how a list of octets is parsed to operations.
+use Prim.Native.Nat.{ℕ, zero, suc, _+_}
+use mathlib.Core.Bool.{Bool, true, false, cond}
+use mathlib.Core.List.{List, [], _∷_}
+use mathlib.Core.Option.{Option, none, some}
+use lib.ListN.{length, drop}
+use lib.Dec.{eqb, leb}
+use Rattle.meaning.specs.Octets.{at16, part}
+
+pub data Op : Type 0 where
+  capabilities : Op
+  read : ℕ → Op
+  set : ℕ → List ℕ → Op
+  subscribe : ℕ → Op
+  unsubscribe : ℕ → Op
+
+-- what follows a code: nothing; a name (2); a name (2), a length (2) and a value. Any other code is malformed
+pub data Shape : Type 0 where
+  alone : Op → Shape
+  named : (ℕ → Op) → Shape
+  valued : (ℕ → List ℕ → Op) → Shape
+  malformed : Shape
+
+unfoldable pub shape : ℕ → Shape
+shape c =
+    cond (eqb c 1) (alone capabilities)
+    (cond (eqb c 2) (named read)
+    (cond (eqb c 3) (valued set)
+    (cond (eqb c 4) (named subscribe)
+    (cond (eqb c 5) (named unsubscribe)
+    malformed))))
+
+-- an operation and the octets after it, or one that is malformed or cut short
+pub data Next : Type 0 where
+  bad : Next
+  got : Op → List ℕ → Next
+
+-- the operation o, if the w octets after its code are there
+unfoldable pub whole : ℕ → List ℕ → Op → Next
+whole w s o = cond (leb w (length s)) (got o (drop w s)) bad
+
+-- the operation of a shape, from the octets after its code
+unfoldable pub shaped : Shape → List ℕ → Next
+shaped (alone o) s = got o s
+shaped (named f) s = whole 2 s (f (at16 s 0))
+shaped (valued f) s = whole (4 + at16 s 2) s (f (at16 s 0) (part s 4 (at16 s 2)))
+shaped malformed s = bad
+
+unfoldable pub more : Op → Option (List Op) → Option (List Op)
+more o none = none
+more o (some os) = some (o ∷ os)
+
+unfoldable pub follow : Next → (List ℕ → Option (List Op)) → Option (List Op)
+follow bad rest = none
+follow (got o s) rest = more o (rest s)
+
+-- at most n octets parsed: each operation takes one or more
+unfoldable pub parseIn : ℕ → List ℕ → Option (List Op)
+parseIn zero [] = some []
+parseIn zero (c ∷ s) = none
+parseIn (suc n) [] = some []
+parseIn (suc n) (c ∷ s) = follow (shaped (shape c) s) (λ r. parseIn n r)
+
+-- the operations of a list of octets, handed out one after another; none where one is malformed or cut short
+unfoldable pub parse : List ℕ → Option (List Op)
+parse s = parseIn (length s) s
+
+abbrev pub isSome : Option (List Op) → Bool
+isSome none = false
+isSome (some os) = true
+
+abbrev pub orNone : Option (List Op) → List Op
+orNone none = []
+orNone (some os) = os
