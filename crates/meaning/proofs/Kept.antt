@@ -1,0 +1,241 @@
+-- Law 1: fresh memory is sound, and every call leaves sound memory sound.
+use Prim.Native.Nat.{ℕ, zero, suc, _+_, _-_, _/_, _%_, _≤_, _<_}
+use native.Mathlib.Omega.{arith}
+use native.Mathlib.Decide.{ℕ-discrete}
+use mathlib.Core.Path.{_≡_, refl, sym, ap, _∙_}
+use mathlib.Core.Logic.{_⊎_, inl, inr}
+use mathlib.Core.Bool.{Bool, true, false, _&&_, _||_, not, cond, false≢true}
+use mathlib.Core.List.{List, [], _∷_, _++_}
+use lib.ListN.{length}
+use lib.Dec.{eqb, leb, ltb}
+use borrow.Author.Tests.{leb-true, ltb-true, eqb-true, eq-eqb, ne-eqb, le-leb}
+use Rattle.meaning.specs.Octets.{every, implies, nonempty, part, be16}
+use Rattle.meaning.specs.Checks.{Checks, passed, check, firstFailed, settle}
+use Rattle.meaning.specs.Table.{Row, rowAt, rows, byPort, byController, place, listed, entryCount, memoryLength, commit}
+use Rattle.meaning.specs.Block.{permits, keeps, formAndFit, listOf, listOk, countOf, number}
+use Rattle.meaning.specs.Memory.{cell, flags, put, store, remark, setClock, present, subscribed, pending, isPending, isSubscribed, waiting, expiries, fourPresent, clockSound, sound, fresh}
+use Rattle.meaning.specs.Operation.{Op, capabilities, read, set, subscribe, unsubscribe}
+use Rattle.meaning.specs.Step.{block, commits, permitted, setChecks, stored, setMemory, subscribeMemory, unsubscribeMemory, step, after}
+use Rattle.meaning.specs.Calls.{Outcome, done, told, call, Deed, deed, carriedOut, acknowledged, isCommand, messageChecks, message, opsOf, localPermitted, differs, localMemory, localChecks, localValue, cleared, buildChecks, build, notification, expired, expiryChecks, expiry, makeFresh}
+use Rattle.meaning.proofs.All.{all}
+use Rattle.meaning.proofs.Lists.{length-part}
+use Rattle.meaning.proofs.Tests.{and-left, and-right, every-at, first-passed, implied}
+use Rattle.meaning.proofs.Places.{listed-place}
+use Rattle.meaning.proofs.Sound.{Sound, opened, entry-of, put-sound, remark-sound, setClock-sound}
+
+pub fresh-sound : sound fresh ≡ true
+unfolding all
+fresh-sound = refl
+
+-- ---- a set
+
+pub permits-most : (r : Row) (v : List ℕ) → permits r v ≡ true → length v ≤ r .most
+unfolding permits
+permits-most r v e = leb-true _ _ (every-at _ 1 e)
+
+-- the tests of form and fit, by their place in the definition
+pub block-length : (b : List ℕ) → formAndFit b ≡ true → (29 ≤ length b) × (length b ≤ 470)
+unfolding formAndFit listOk listOf
+block-length b e =
+    let long : 22 ≤ length b = leb-true _ _ (every-at _ 0 e) in
+    let l : length (part b 14 (length b - 22)) ≡ length b - 22 = length-part b 14 (length b - 22) (omega arith) in
+    let most : number (countOf b) ≤ 64 = leb-true _ _ (every-at _ 2 e) in
+    let sevens : length (part b 14 (length b - 22)) % 7 ≡ 0 = eqb-true _ _ (and-left _ _ (every-at _ 3 e)) in
+    let count : number (countOf b) ≡ length (part b 14 (length b - 22)) / 7 = eqb-true _ _ (every-at _ 5 e) in
+    let one : 1 ≤ length (part b 14 (length b - 22)) / 7 = leb-true _ _ (every-at _ 6 e) in
+    (omega arith, omega arith)
+
+block-permitted : (b : List ℕ) → formAndFit b ≡ true → permits (rowAt commit) b ≡ true
+unfolding permits rowAt rows every keeps
+block-permitted b e =
+    let h = block-length b e in
+    simp (le-leb 29 (length b) (h .0), le-leb (length b) 470 (h .1), e)
+
+-- a value that is permitted may be stored, and what is stored is
+pub stored-permitted : (m : List ℕ) (k : ℕ) (v : List ℕ) → permitted m k v ≡ true
+    → (permits (rowAt k) (stored m k v) ≡ true) × (k ≡ commit → fourPresent m ≡ true)
+unfolding permitted stored commits
+stored-permitted m k v e = go (ℕ-discrete k commit)
+  where
+    go : Dec (k ≡ commit) → (permits (rowAt k) (cond (eqb k commit) (block m) v) ≡ true) × (k ≡ commit → fourPresent m ≡ true)
+    go (yes q) =
+        let c = simp (eq-eqb k commit q) at e in
+        (simp (eq-eqb k commit q) (rw q (block-permitted (block m) (every-at _ 2 c))), λ _. every-at _ 0 c)
+    go (no q) = (simp (ne-eqb k commit q) (simp (ne-eqb k commit q) at e), λ h. absurd (q h))
+
+pub store-sound : (m : List ℕ) (k : ℕ) (v : List ℕ) → Sound m → k < entryCount → permits (rowAt k) v ≡ true → (k ≡ commit → fourPresent m ≡ true)
+    → sound (store m k v) ≡ true
+unfolding store subscribed pending
+store-sound m k v S hk e four =
+    put-sound m k true (isSubscribed (cell m k)) (isPending (cell m k)) v S hk (permits-most (rowAt k) v e) (inl refl) (entry-of m S k hk .marks) e four
+
+-- what the checks of a set say where they pass
+pub record Settable (m : List ℕ) (n : ℕ) (v : List ℕ) : Type 0 where
+  pub isListed : listed n ≡ true
+  pub controls : byController (rowAt (place n) .owner) ≡ true
+  pub allowed : permitted m (place n) v ≡ true
+
+pub settable : (m : List ℕ) (n : ℕ) (v : List ℕ) → firstFailed (setChecks m n v) ≡ 0 → Settable m n v
+unfolding setChecks
+settable m n v e =
+    let a = first-passed 0 _ _ e in
+    let b = first-passed 0x6E _ _ (a .1) in
+    let c = first-passed 1 _ _ (b .1) in
+    record { isListed = a .0; controls = b .0; allowed = c .0 }
+
+set-sound : (m : List ℕ) (n : ℕ) (v : List ℕ) → sound m ≡ true → sound (setMemory m n v) ≡ true
+unfolding setMemory settle
+set-sound m n v s = go (firstFailed (setChecks m n v)) refl
+  where
+    go : (k : ℕ) → firstFailed (setChecks m n v) ≡ k → sound (settle k (store m (place n) (stored m (place n) v)) (λ _. m)) ≡ true
+    go zero e =
+        let t = settable m n v e in
+        let p = stored-permitted m (place n) v (t .allowed) in
+        store-sound m (place n) (stored m (place n) v) (opened m s) (listed-place n (t .isListed)) (p .0) (p .1)
+    go (suc k) e = s
+
+-- ---- marks
+
+subscribed-marks : (q o b : Bool) → implies q (o && b) ≡ true → implies q b ≡ true
+unfolding implies
+subscribed-marks true true b e = e
+subscribed-marks true false b e = absurd (false≢true e)
+subscribed-marks false o b e = refl
+
+subscribe-sound : (m : List ℕ) (n : ℕ) → sound m ≡ true → sound (subscribeMemory m n) ≡ true
+unfolding subscribeMemory pending
+subscribe-sound m n s = go (listed n) refl
+  where
+    go : (b : Bool) → listed n ≡ b → sound (cond b (remark m (place n) true (isPending (cell m (place n)))) m) ≡ true
+    go true e =
+        let S = opened m s in
+        let hk = listed-place n e in
+        remark-sound m (place n) true (isPending (cell m (place n))) S hk (subscribed-marks _ (isSubscribed (cell m (place n))) _ (entry-of m S (place n) hk .marks))
+    go false e = s
+
+unsubscribe-sound : (m : List ℕ) (n : ℕ) → sound m ≡ true → sound (unsubscribeMemory m n) ≡ true
+unfolding unsubscribeMemory implies
+unsubscribe-sound m n s = go (listed n) refl
+  where
+    go : (b : Bool) → listed n ≡ b → sound (cond b (remark m (place n) false false) m) ≡ true
+    go true e = remark-sound m (place n) false false (opened m s) (listed-place n e) refl
+    go false e = s
+
+-- ---- every operation, and every list of them
+
+pub step-sound : (m : List ℕ) (o : Op) → sound m ≡ true → sound (step m o) ≡ true
+unfolding step
+step-sound m capabilities s = s
+step-sound m (read n) s = s
+step-sound m (set n v) s = set-sound m n v s
+step-sound m (subscribe n) s = subscribe-sound m n s
+step-sound m (unsubscribe n) s = unsubscribe-sound m n s
+
+pub after-sound : (m : List ℕ) (os : List Op) → sound m ≡ true → sound (after m os) ≡ true
+unfolding after
+after-sound m [] s = s
+after-sound m (o ∷ os) s = after-sound (step m o) os (step-sound m o s)
+
+-- ---- a call: what it does is looked at only where its checks pass
+
+pub call-memory : (P : List ℕ → Type 0) (cs : Checks) (o : Outcome) (m room : List ℕ) → P m → (firstFailed cs ≡ 0 → P (o .memory)) → P (call cs o m room .memory)
+unfolding call settle
+call-memory P cs o m room p f = go (firstFailed cs) refl
+  where
+    go : (n : ℕ) → firstFailed cs ≡ n → P (settle n o (λ k. told k m room) .memory)
+    go zero e = f e
+    go (suc n) e = p
+
+abbrev IsSound : List ℕ → Type 0
+IsSound m = sound m ≡ true
+
+clock-idle : clockSound (0 ∷ 0 ∷ []) ≡ true
+unfolding clockSound
+clock-idle = refl
+
+clock-waiting : (n : ℕ) → n ≤ 4 → clockSound (1 ∷ n ∷ []) ≡ true
+unfolding clockSound
+clock-waiting n h = le-leb n 4 h
+
+pub message-sound : (m s room : List ℕ) → sound m ≡ true → sound (message m s room .memory) ≡ true
+unfolding message deed carriedOut acknowledged
+message-sound m s room h = call-memory IsSound (messageChecks m s (length room)) _ m room h (λ e. go (isCommand s))
+  where
+    go : (b : Bool) → sound (cond b (carriedOut m (opsOf s)) (acknowledged m) .memory) ≡ true
+    go true = after-sound m (opsOf s) h
+    go false = setClock-sound m 0 0 (opened m h) clock-idle
+
+-- ---- a local value
+
+local-marks : (q s d o : Bool) → implies q (s && o) ≡ true → o ≡ true → implies (q || (s && d)) (s && o) ≡ true
+unfolding implies
+local-marks true s d o e h = e
+local-marks false true true o e h = h
+local-marks false true false o e h = refl
+local-marks false false d o e h = refl
+
+local-held : (r : Row) (v : List ℕ) → (not (nonempty v) || permits r v) ≡ true
+    → (cond (nonempty v) (permits r v) (eqb (length v) 0) ≡ true) × (length v ≤ r .most)
+local-held r [] e = (refl, omega arith)
+local-held r (x ∷ v) e = (e, permits-most r (x ∷ v) e)
+
+commit-not-port : byPort (rowAt commit .owner) ≡ false
+unfolding byPort rowAt rows
+commit-not-port = refl
+
+-- what the check of a local value says where it passes
+pub record Local (n : ℕ) (v : List ℕ) : Type 0 where
+  pub isListed : listed n ≡ true
+  pub byThePort : byPort (rowAt (place n) .owner) ≡ true
+  pub allowed : (not (nonempty v) || permits (rowAt (place n)) v) ≡ true
+
+pub local-opened : (n : ℕ) (v : List ℕ) → localPermitted n v ≡ true → Local n v
+unfolding localPermitted
+local-opened n v e = record { isListed = every-at _ 0 e; byThePort = every-at _ 1 e; allowed = every-at _ 2 e }
+
+local-sound : (m : List ℕ) (n : ℕ) (v : List ℕ) → sound m ≡ true → Local n v → sound (localMemory m (place n) v) ≡ true
+unfolding localMemory subscribed pending
+local-sound m n v s l =
+    let S = opened m s in
+    let k = place n in
+    let hk = listed-place n (l .isListed) in
+    let h = local-held (rowAt k) v (l .allowed) in
+    let c = cell m k in
+    put-sound m k (nonempty v) (isSubscribed c) (isPending c || (isSubscribed c && differs m k v)) v S hk (h .1) (inr (l .byThePort))
+    (local-marks _ (isSubscribed c) (differs m k v) _ (entry-of m S k hk .marks) (l .byThePort))
+    (h .0)
+    (λ e. absurd (false≢true (sym commit-not-port ∙ ap (λ (j : ℕ). byPort (rowAt j .owner)) (sym e) ∙ l .byThePort)))
+
+pub localValue-sound : (m : List ℕ) (n : ℕ) (v : List ℕ) → sound m ≡ true → sound (localValue m n v .memory) ≡ true
+unfolding localValue localChecks
+localValue-sound m n v s =
+    call-memory IsSound (localChecks m n v) _ m [] s
+    (λ e. local-sound m n v s (local-opened n v (first-passed 11 _ _ (first-passed 0 _ _ e .1) .0)))
+
+-- ---- a notification, an expiry, making it fresh
+
+pub cleared-sound : (k : ℕ) (m : List ℕ) → k ≤ entryCount → sound m ≡ true → sound (cleared k m) ≡ true
+unfolding cleared implies
+cleared-sound zero m h s = s
+cleared-sound (suc k) m h s =
+    let c = cleared k m in
+    remark-sound c k (subscribed c k) false (opened c (cleared-sound k m (omega arith) s)) (omega arith) refl
+
+pub build-sound : (m room : List ℕ) → sound m ≡ true → sound (build m room .memory) ≡ true
+unfolding build
+build-sound m room s =
+    call-memory IsSound (buildChecks m (length room)) _ m room s
+    (λ e. setClock-sound (cleared entryCount m) 1 0 (opened (cleared entryCount m) (cleared-sound entryCount m (omega arith) s)) (clock-waiting 0 (omega arith)))
+
+pub expiry-sound : (m : List ℕ) → sound m ≡ true → sound (expiry m .memory) ≡ true
+unfolding expiry expired
+expiry-sound m s = call-memory IsSound (expiryChecks m) _ m [] s (λ e. go (ltb (expiries m) 4) refl)
+  where
+    go : (b : Bool) → ltb (expiries m) 4 ≡ b → sound (cond b (told 20 (setClock m 1 (expiries m + 1)) []) (told 21 (setClock m 0 0) []) .memory) ≡ true
+    go true e = setClock-sound m 1 (expiries m + 1) (opened m s) (clock-waiting (expiries m + 1) (omega (arith, ltb-true (expiries m) 4 e)))
+    go false e = setClock-sound m 0 0 (opened m s) clock-idle
+
+-- from any memory, of any content
+pub makeFresh-sound : (m : List ℕ) → length m ≡ memoryLength → sound (makeFresh m .memory) ≡ true
+unfolding makeFresh call settle firstFailed
+makeFresh-sound m h = simp (eq-eqb _ _ h) fresh-sound
