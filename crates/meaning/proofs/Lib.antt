@@ -5,3 +5,4 @@ pub mod Bench
 pub mod Places
 pub mod Sound
 pub mod Kept
+pub mod Encode
