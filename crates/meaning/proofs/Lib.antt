@@ -6,3 +6,5 @@ pub mod Places
 pub mod Sound
 pub mod Kept
 pub mod Encode
+pub mod Records
+pub mod Decode
