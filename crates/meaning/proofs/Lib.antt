@@ -8,3 +8,4 @@ pub mod Kept
 pub mod Encode
 pub mod Records
 pub mod Decode
+pub mod Answered
