@@ -9,3 +9,5 @@ pub mod Encode
 pub mod Records
 pub mod Decode
 pub mod Answered
+pub mod Accepted
+pub mod Cut

@@ -1,0 +1,110 @@
+-- A command that is carried out: what number 0 says of it, and what the call then gives.
+use Prim.Native.Nat.{ℕ, zero, suc, _+_, _*_, _≤_, _<_}
+use native.Mathlib.Omega.{arith}
+use mathlib.Core.Path.{_≡_, refl, sym, ap, _∙_}
+use mathlib.Core.Bool.{Bool, true, false, _||_, cond, false≢true}
+use mathlib.Core.Option.{Option, none, some}
+use mathlib.Core.List.{List, [], _∷_, _++_}
+use lib.ListN.{length, drop, length-append, length-drop}
+use lib.Dec.{eqb, leb}
+use borrow.Author.Tests.{leb-true, le-leb, eqb-true}
+use Rattle.meaning.specs.Octets.{octet, every, implies}
+use Rattle.meaning.specs.Checks.{Checks, passed, check, firstFailed, settle}
+use Rattle.meaning.specs.Memory.{sound}
+use Rattle.meaning.specs.Operation.{Op, parse, isSome, orNone}
+use Rattle.meaning.specs.Step.{after}
+use Rattle.meaning.specs.Reply.{complete}
+use Rattle.meaning.specs.Calls.{Outcome, done, told, call, isCommand, isAcknowledgement, lengthField, operations, opsOf, lengthRight, records, carriedOut, acknowledged, deed, fits, messageChecks, message}
+use Rattle.meaning.proofs.Tests.{every-at, implies-of, implied, first-passed, first-pass, all-passed}
+use Rattle.meaning.proofs.Records.{Fits, fits-opened, fits-closed}
+
+-- a command of these operations that a memory and a room of n octets carry out
+pub record Accepted (m s : List ℕ) (n : ℕ) (os : List Op) : Type 0 where
+  pub isSound : sound m ≡ true
+  pub command : isCommand s ≡ true
+  pub long : length s ≤ 2048
+  pub nonzero : 1 ≤ lengthField s
+  pub inside : 3 + lengthField s ≤ length s
+  pub parsed : parse (operations s) ≡ some os
+  pub fit : Fits n (records m os)
+
+one-type : (s : List ℕ) → isCommand s ≡ true → isAcknowledgement s ≡ false
+unfolding isCommand isAcknowledgement
+one-type s e =
+    let h : octet s 0 ≡ 1 = eqb-true _ _ e in
+    rw h
+
+pub some-of : (o : Option (List Op)) → isSome o ≡ true → o ≡ some (orNone o)
+some-of none e = absurd (false≢true e)
+some-of (some os) e = refl
+
+pub ops-parsed : (s : List ℕ) (os : List Op) → parse (operations s) ≡ some os → opsOf s ≡ os
+unfolding opsOf
+ops-parsed s os e = rw e
+
+pub deed-command : (m s : List ℕ) → isCommand s ≡ true → deed m s ≡ carriedOut m (opsOf s)
+unfolding deed
+deed-command m s e = rw e
+
+right-length : (s : List ℕ) → 1 ≤ lengthField s → 3 + lengthField s ≤ length s → lengthRight s ≡ true
+unfolding lengthRight every
+right-length s a b = simp (le-leb 3 (length s) (omega arith), le-leb _ _ a, le-leb _ _ b)
+
+pub accepted-passes : (m s : List ℕ) (n : ℕ) (os : List Op) → Accepted m s n os → firstFailed (messageChecks m s n) ≡ 0
+unfolding messageChecks
+accepted-passes m s n os a =
+    first-pass 1 _ _ (a .isSound)
+    (first-pass 2 _ _ (le-leb 1 (length s) (omega (arith, a .inside)))
+    (first-pass 3 _ _ (le-leb _ _ (a .long))
+    (first-pass 4 _ _ (rw (a .command))
+    (first-pass 5 _ _ (implies-of _ _ (λ _. right-length s (a .nonzero) (a .inside)))
+    (first-pass 6 _ _ (implies-of _ _ (λ _. ap isSome (a .parsed)))
+    (first-pass 8 _ _ (implies-of _ _ (λ e. absurd (false≢true (sym (one-type s (a .command)) ∙ e))))
+    (first-pass 7 _ passed (rw (deed-command m s (a .command), ops-parsed s os (a .parsed)) (fits-closed n m os (a .fit))) all-passed)))))))
+
+pub passes-accepted : (m s : List ℕ) (n : ℕ) → isCommand s ≡ true → firstFailed (messageChecks m s n) ≡ 0 → Accepted m s n (opsOf s)
+unfolding messageChecks lengthRight opsOf
+passes-accepted m s n c e =
+    let e1 = first-passed 0 _ _ e in
+    let e2 = first-passed 1 _ _ (e1 .1) in
+    let e3 = first-passed 2 _ _ (e2 .1) in
+    let e4 = first-passed 3 _ _ (e3 .1) in
+    let e5 = first-passed 4 _ _ (e4 .1) in
+    let e6 = first-passed 5 _ _ (e5 .1) in
+    let e8 = first-passed 7 _ _ (e6 .1) in
+    let e7 = first-passed 6 _ _ (e8 .1) in
+    let l = implied (isCommand s) _ (e5 .0) c in
+    let f : fits n (carriedOut m (opsOf s)) ≡ true = ap (fits n) (sym (deed-command m s c)) ∙ e7 .0 in
+    record {
+      isSound = e1 .0;
+      command = c;
+      long = leb-true _ _ (e3 .0);
+      nonzero = leb-true _ _ (every-at _ 1 l);
+      inside = leb-true _ _ (every-at _ 2 l);
+      parsed = some-of (parse (operations s)) (implied (isCommand s) _ (e6 .0) c);
+      fit = fits-opened n m (opsOf s) f;
+    }
+
+-- what an accepted command's call gives
+pub accepted-call : (m s room : List ℕ) (os : List Op) → Accepted m s (length room) os
+    → message m s room ≡ done (complete (records m os)) (after m os) room
+unfolding message call settle carriedOut
+accepted-call m s room os a =
+    rw (accepted-passes m s (length room) os a, deed-command m s (a .command), ops-parsed s os (a .parsed))
+
+-- number 0 comes of checks that pass
+pub message-passed : (m s room : List ℕ) → message m s room .number ≡ 0 → firstFailed (messageChecks m s (length room)) ≡ 0
+unfolding message call settle
+message-passed m s room e = go (firstFailed (messageChecks m s (length room))) refl e
+  where
+    go : (k : ℕ) → firstFailed (messageChecks m s (length room)) ≡ k
+        → settle k (done (deed m s .reply) (deed m s .memory) room) (λ n. told n m room) .number ≡ 0 → firstFailed (messageChecks m s (length room)) ≡ 0
+    go zero h z = h
+    go (suc k) h z = absurd (omega arith)
+
+pub carried-accepted : (m s room : List ℕ) → isCommand s ≡ true → message m s room .number ≡ 0 → Accepted m s (length room) (opsOf s)
+carried-accepted m s room c e = passes-accepted m s (length room) c (message-passed m s room e)
+
+-- octets written that fit leave the room as long as it was
+pub done-room : (w m room : List ℕ) → length w ≤ length room → length (done w m room .room) ≡ length room
+done-room w m room h = omega (arith, length-append w (drop (length w) room), length-drop (length w) room)
