@@ -11,3 +11,4 @@ pub mod Decode
 pub mod Answered
 pub mod Accepted
 pub mod Cut
+pub mod Sums
