@@ -12,3 +12,4 @@ pub mod Answered
 pub mod Accepted
 pub mod Cut
 pub mod Sums
+pub mod Commit

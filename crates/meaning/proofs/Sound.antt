@@ -174,6 +174,21 @@ module _ (m : List ℕ) (k : ℕ) (p s q : Bool) (v : List ℕ) (S : Sound m) (h
   unfolding present
   put-present-other j hj ne = rw (cell-put-other m k (flags p s q) v (S .long) hk hv j hj ne)
 
+  pub put-body-same : body put-m k ≡ v
+  unfolding body
+  put-body-same =
+      rw (
+        cell-put-same m k (flags p s q) v (S .long) hk hv,
+        room-put-same m k (flags p s q) v (S .long) hk hv,
+        size-cellOf k (flags p s q) (length v) (omega (arith, most-small k hk)),
+      )
+      (take-roomOf k v)
+
+  pub put-body-other : (j : ℕ) → j < entryCount → j ≢ k → body put-m j ≡ body m j
+  unfolding body
+  put-body-other j hj ne =
+      rw (cell-put-other m k (flags p s q) v (S .long) hk hv j hj ne, room-put-other m k (flags p s q) v (S .long) hk hv j hj ne)
+
   -- what is present stays so, unless it is what the port has made absent
   module _ (stays : (p ≡ true) ⊎ (byPort (rowAt k .owner) ≡ true)) where
     present-stays : (j : ℕ) → j < entryCount → byPort (rowAt j .owner) ≡ false → present m j ≡ true → present put-m j ≡ true

@@ -1,0 +1,214 @@
+-- A commit's conditions spelt out: on sound memory the test of a set of 8001 passes exactly if each of them holds.
+use Prim.Native.Nat.{ℕ, zero, suc, _+_, _-_, _*_, _/_, _%_, _≤_, _<_}
+use native.Mathlib.Omega.{arith}
+use mathlib.Core.Path.{_≡_, refl, sym, ap, _∙_}
+use mathlib.Core.Bool.{Bool, true, false, cond, _&&_}
+use mathlib.Core.List.{List, [], _∷_, _++_, append-assoc}
+use lib.ListN.{length, take, drop, length-append}
+use lib.Seq.{take-at, drop-at, take-length}
+use lib.Dec.{eqb, leb, ltb}
+use borrow.Author.Tests.{leb-true, ltb-true, eqb-true, le-leb, lt-ltb, eq-eqb}
+use Rattle.meaning.specs.Octets.{octet, at32, be16, part, every, same}
+use Rattle.meaning.specs.Table.{Row, rowAt, rows, adminBaseTime, adminControlListLength, adminControlList, adminCycleTime, entryCount}
+use Rattle.meaning.specs.Block.{number, timeOk, entriesOf, interval, entryOk, eachOk, listOk, intervals, ratioOk, cycle, sumsOf, sums, joinedBlock, baseOf, countOf, listOf, ratioOf, formAndFit, permits}
+use Rattle.meaning.specs.Memory.{cell, room, size, isPresent, present, body, fourPresent}
+use Rattle.meaning.specs.Step.{block, commits}
+use Rattle.meaning.proofs.Lists.{Each}
+use Rattle.meaning.proofs.Tests.{and-left, and-right, and-both, every-at, same-true, same-refl}
+use Rattle.meaning.proofs.Sound.{Sound, entry-of, four-at}
+use Rattle.meaning.proofs.Sums.{total, totals, first-sum, second-sum}
+
+-- ---- a block's four values
+
+module _ (b c l r : List ℕ) (hb : length b ≡ 10) (hc : length c ≡ 4) (hr : length r ≡ 8) where
+  joined-length : length (joinedBlock b c l r) ≡ 22 + length l
+  unfolding joinedBlock
+  joined-length = omega (arith, length-append b (c ++ (l ++ r)), length-append c (l ++ r), length-append l r)
+
+  base-joined : baseOf (joinedBlock b c l r) ≡ b
+  unfolding baseOf joinedBlock part
+  base-joined = take-at b (c ++ (l ++ r)) 10 hb
+
+  count-joined : countOf (joinedBlock b c l r) ≡ c
+  unfolding countOf joinedBlock part
+  count-joined = rw (drop-at b (c ++ (l ++ r)) 10 hb) (take-at c (l ++ r) 4 hc)
+
+  list-joined : listOf (joinedBlock b c l r) ≡ l
+  unfolding listOf joinedBlock part
+  list-joined =
+      let n : length (b ++ (c ++ (l ++ r))) - 22 ≡ length l =
+          omega (arith, length-append b (c ++ (l ++ r)), length-append c (l ++ r), length-append l r) in
+      let e : b ++ (c ++ (l ++ r)) ≡ b ++ c ++ (l ++ r) = sym (append-assoc b c (l ++ r)) in
+      rw (n, e, drop-at (b ++ c) (l ++ r) 14 (omega (arith, length-append b c))) (take-at l r (length l) refl)
+
+  ratio-joined : ratioOf (joinedBlock b c l r) ≡ r
+  unfolding ratioOf joinedBlock part
+  ratio-joined =
+      let n : length (b ++ (c ++ (l ++ r))) - 8 ≡ 14 + length l =
+          omega (arith, length-append b (c ++ (l ++ r)), length-append c (l ++ r), length-append l r) in
+      let e : b ++ (c ++ (l ++ r)) ≡ b ++ c ++ l ++ r = simp append-assoc in
+      let k : length (b ++ c ++ l) ≡ 14 + length l = omega (arith, length-append b c, length-append (b ++ c) l) in
+      rw (n, e, drop-at (b ++ c ++ l) r (14 + length l) k) (ap (λ (i : ℕ). take i r) (sym hr) ∙ take-length r)
+
+  -- form and fit of the block, as tests of the four values
+  pub form-joined : formAndFit (joinedBlock b c l r)
+      ≡ every
+      (leb 22 (22 + length l)
+      ∷ timeOk b
+      ∷ leb (number c) 64
+      ∷ listOk l
+      ∷ ratioOk r
+      ∷ eqb (number c) (length l / 7)
+      ∷ leb 1 (length l / 7)
+      ∷ leb (intervals (entriesOf l)) (cycle r)
+      ∷ [])
+  unfolding formAndFit
+  form-joined = rw (base-joined, count-joined, list-joined, ratio-joined, joined-length)
+
+-- ---- the values of sound memory that are present
+
+permits-length : (r : Row) (v : List ℕ) → permits r v ≡ true → (r .least ≤ length v) × (length v ≤ r .most)
+unfolding permits
+permits-length r v e = (leb-true _ _ (every-at _ 0 e), leb-true _ _ (every-at _ 1 e))
+
+module _ (m : List ℕ) (S : Sound m) (k : ℕ) (hk : k < entryCount) (p : present m k ≡ true) where
+  pub body-permitted : permits (rowAt k) (body m k) ≡ true
+  unfolding present body
+  body-permitted = rw p at (entry-of m S k hk .held)
+
+  body-fixed : (n : ℕ) → rowAt k .least ≡ n → rowAt k .most ≡ n → length (body m k) ≡ n
+  body-fixed n a b =
+      let h = permits-length (rowAt k) (body m k) body-permitted in
+      omega arith
+
+-- ---- the conditions
+
+-- a list entry: operation 0, 1 or 2; the octet 5; the interval not 0
+pub record EntryRule (e : List ℕ) : Type 0 where
+  pub operation : octet e 0 ≤ 2
+  pub five : octet e 1 ≡ 5
+  pub nonzero : 1 ≤ interval e
+
+pub record Commits (m v : List ℕ) : Type 0 where
+  pub basePresent : present m adminBaseTime ≡ true
+  pub countPresent : present m adminControlListLength ≡ true
+  pub listPresent : present m adminControlList ≡ true
+  pub ratioPresent : present m adminCycleTime ≡ true
+  pub fourOctets : length v ≡ 4
+  pub nanoseconds : at32 (body m adminBaseTime) 6 < 1000000000
+  pub sevens : length (body m adminControlList) % 7 ≡ 0
+  pub entries : Each EntryRule (entriesOf (body m adminControlList))
+  pub holdsCount : number (body m adminControlListLength) ≡ length (body m adminControlList) / 7
+  pub atLeastOne : 1 ≤ length (body m adminControlList) / 7
+  pub atMost : length (body m adminControlList) / 7 ≤ 64
+  pub denominator : 1 ≤ at32 (body m adminCycleTime) 4
+  pub fit : intervals (entriesOf (body m adminControlList)) ≤ at32 (body m adminCycleTime) 0 * 1000000000 / at32 (body m adminCycleTime) 4
+  pub sumsAgree : v ≡ be16 (total (block m) % 65536) ++ be16 (totals 0 (block m) % 65536)
+
+entry-rule : (e : List ℕ) → entryOk e ≡ true → EntryRule e
+unfolding entryOk
+entry-rule e h =
+    record { operation = leb-true _ _ (every-at _ 0 h); five = eqb-true _ _ (every-at _ 1 h); nonzero = leb-true _ _ (every-at _ 2 h) }
+
+rule-entry : (e : List ℕ) → EntryRule e → entryOk e ≡ true
+unfolding entryOk every
+rule-entry e r = simp (le-leb _ _ (r .operation), eq-eqb _ _ (r .five), le-leb _ _ (r .nonzero))
+
+each-rule : (es : List (List ℕ)) → eachOk es ≡ true → Each EntryRule es
+unfolding eachOk
+each-rule [] h = tt
+each-rule (e ∷ es) h = (entry-rule e (and-left _ _ h), each-rule es (and-right (entryOk e) _ h))
+
+rule-each : (es : List (List ℕ)) → Each EntryRule es → eachOk es ≡ true
+unfolding eachOk
+rule-each [] h = refl
+rule-each (e ∷ es) h = and-both (rule-entry e (h .0)) (rule-each es (h .1))
+
+sums-plain-value : (s : List ℕ) → sums s ≡ be16 (total s % 65536) ++ be16 (totals 0 s % 65536)
+unfolding sums
+sums-plain-value s = rw (first-sum s, second-sum s)
+
+module _ (m v : List ℕ) (S : Sound m) where
+  abbrev base : List ℕ
+  base = body m adminBaseTime
+
+  abbrev count : List ℕ
+  count = body m adminControlListLength
+
+  abbrev list : List ℕ
+  list = body m adminControlList
+
+  abbrev ratio′ : List ℕ
+  ratio′ = body m adminCycleTime
+
+  -- the block's form and fit in the four values, where they are present
+  block-form : fourPresent m ≡ true → formAndFit (block m)
+      ≡ every
+      (leb 22 (22 + length list)
+      ∷ timeOk base
+      ∷ leb (number count) 64
+      ∷ listOk list
+      ∷ ratioOk ratio′
+      ∷ eqb (number count) (length list / 7)
+      ∷ leb 1 (length list / 7)
+      ∷ leb (intervals (entriesOf list)) (cycle ratio′)
+      ∷ [])
+  unfolding block rowAt rows
+  block-form f =
+      form-joined base count list ratio′
+      (body-fixed m S adminBaseTime (omega arith) (four-at m 0 f) 10 refl refl)
+      (body-fixed m S adminControlListLength (omega arith) (four-at m 1 f) 4 refl refl)
+      (body-fixed m S adminCycleTime (omega arith) (four-at m 3 f) 8 refl refl)
+
+  pub commits-spelt : commits m v ≡ true → Commits m v
+  unfolding commits timeOk listOk ratioOk cycle
+  commits-spelt e =
+      let f : fourPresent m ≡ true = every-at _ 0 e in
+      let g = sym (block-form f) ∙ every-at _ 2 e in
+      let n : number count ≡ length list / 7 = eqb-true _ _ (every-at _ 5 g) in
+      let k : number count ≤ 64 = leb-true _ _ (every-at _ 2 g) in
+      let w : listOk list ≡ true = every-at _ 3 g in
+      record {
+        basePresent = four-at m 0 f;
+        countPresent = four-at m 1 f;
+        listPresent = four-at m 2 f;
+        ratioPresent = four-at m 3 f;
+        fourOctets = eqb-true _ _ (every-at _ 1 e);
+        nanoseconds = ltb-true _ _ (every-at _ 1 g);
+        sevens = eqb-true _ _ (and-left _ _ w);
+        entries = each-rule (entriesOf list) (and-right (eqb (length list % 7) 0) _ w);
+        holdsCount = n;
+        atLeastOne = leb-true _ _ (every-at _ 6 g);
+        atMost = omega arith;
+        denominator = leb-true _ _ (every-at _ 4 g);
+        fit = leb-true _ _ (every-at _ 7 g);
+        sumsAgree = same-true v (sums (block m)) (every-at _ 3 e) ∙ sums-plain-value (block m);
+      }
+
+  spelt-form : fourPresent m ≡ true → Commits m v → formAndFit (block m) ≡ true
+  unfolding every timeOk listOk ratioOk cycle
+  spelt-form f c =
+      block-form f
+      ∙ simp (
+        le-leb 22 (22 + length list) (omega arith),
+        lt-ltb _ _ (c .nanoseconds),
+        le-leb (number count) 64 (omega (arith, c .holdsCount, c .atMost)),
+        eq-eqb _ _ (c .sevens),
+        rule-each (entriesOf list) (c .entries),
+        le-leb _ _ (c .denominator),
+        eq-eqb _ _ (c .holdsCount),
+        le-leb _ _ (c .atLeastOne),
+        le-leb _ _ (c .fit),
+      )
+
+  spelt-four : Commits m v → fourPresent m ≡ true
+  unfolding fourPresent every
+  spelt-four c = simp (c .basePresent, c .countPresent, c .listPresent, c .ratioPresent)
+
+  pub spelt-commits : Commits m v → commits m v ≡ true
+  unfolding commits every
+  spelt-commits c =
+      let f = spelt-four c in
+      let e : v ≡ sums (block m) = c .sumsAgree ∙ sym (sums-plain-value (block m)) in
+      let s : same v (sums (block m)) ≡ true = ap (λ (w : List ℕ). same w (sums (block m))) e ∙ same-refl (sums (block m)) in
+      simp (f, eq-eqb _ _ (c .fourOctets), spelt-form f c, s)
