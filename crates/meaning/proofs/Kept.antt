@@ -174,12 +174,12 @@ local-marks false true true o e h = h
 local-marks false true false o e h = refl
 local-marks false false d o e h = refl
 
-local-held : (r : Row) (v : List ℕ) → (not (nonempty v) || permits r v) ≡ true
+pub local-held : (r : Row) (v : List ℕ) → (not (nonempty v) || permits r v) ≡ true
     → (cond (nonempty v) (permits r v) (eqb (length v) 0) ≡ true) × (length v ≤ r .most)
 local-held r [] e = (refl, omega arith)
 local-held r (x ∷ v) e = (e, permits-most r (x ∷ v) e)
 
-commit-not-port : byPort (rowAt commit .owner) ≡ false
+pub commit-not-port : byPort (rowAt commit .owner) ≡ false
 unfolding byPort rowAt rows
 commit-not-port = refl
 

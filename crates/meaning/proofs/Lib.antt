@@ -13,3 +13,4 @@ pub mod Accepted
 pub mod Cut
 pub mod Sums
 pub mod Commit
+pub mod Running

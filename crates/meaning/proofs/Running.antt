@@ -1,0 +1,251 @@
+-- Law 4: the running block changes only by a set of 8001 that meets every condition of document 01, and then becomes the block of
+-- the four values. No other operation and no other call touches it.
+use Prim.Native.Nat.{ℕ, zero, suc, _+_, _≤_, _<_}
+use native.Mathlib.Omega.{arith}
+use native.Mathlib.Decide.{ℕ-discrete}
+use mathlib.Core.Path.{_≡_, refl, sym, ap, _∙_, subst}
+use mathlib.Core.Logic.{_≢_, _⊎_, inl, inr}
+use mathlib.Core.Bool.{Bool, true, false, _&&_, _||_, cond, false≢true}
+use mathlib.Core.List.{List, [], _∷_, _++_}
+use lib.ListN.{length, getD}
+use lib.Dec.{eqb, ltb}
+use borrow.Author.Tests.{eqb-true, eq-eqb, ne-eqb}
+use Rattle.meaning.specs.Octets.{nonempty}
+use Rattle.meaning.specs.Checks.{Checks, firstFailed, settle, check, passed}
+use Rattle.meaning.specs.Table.{Row, Owner, controller, port, nobody, row, rowAt, rows, placeIn, place, listed, byController, byPort, free, entryCount, memoryLength, commit}
+use Rattle.meaning.specs.Block.{permits}
+use Rattle.meaning.specs.Memory.{cell, present, subscribed, pending, body, flags, put, store, remark, setClock, sound, expiries}
+use Rattle.meaning.specs.Operation.{Op, capabilities, read, set, subscribe, unsubscribe}
+use Rattle.meaning.specs.Step.{block, commits, permitted, setChecks, stored, setMemory, setAnswer, subscribeMemory, unsubscribeMemory, step, answer, update, after}
+use Rattle.meaning.specs.Calls.{Outcome, told, call, isCommand, carriedOut, acknowledged, deed, opsOf, messageChecks, message, differs, localMemory, localChecks, localValue, cleared, buildChecks, build, expired, expiryChecks, expiry}
+use Rattle.meaning.proofs.Tests.{first-passed, first-pass, all-passed}
+use Rattle.meaning.proofs.Places.{listed-place}
+use Rattle.meaning.proofs.Sound.{Sound, opened, put-present-same, put-present-other, put-body-same, put-body-other, present-remark, body-remark, present-setClock, body-setClock}
+use Rattle.meaning.proofs.Kept.{permits-most, stored-permitted, Settable, settable, step-sound, after-sound, call-memory, cleared-sound, Local, local-opened, local-held, commit-not-port}
+use Rattle.meaning.proofs.Commit.{Commits, commits-spelt, spelt-commits}
+
+-- ---- the statement
+
+-- the same block runs, or none does
+pub record SameRunning (m m′ : List ℕ) : Type 0 where
+  pub runs : present m′ commit ≡ present m commit
+  pub block : body m′ commit ≡ body m commit
+
+-- this block runs
+pub record Runs (m b : List ℕ) : Type 0 where
+  pub runs : present m commit ≡ true
+  pub block : body m commit ≡ b
+
+same-running : (m : List ℕ) → SameRunning m m
+same-running m = record { runs = refl; block = refl }
+
+same-then : {a b c : List ℕ} → SameRunning a b → SameRunning b c → SameRunning a c
+same-then f g = record { runs = g .runs ∙ f .runs; block = g .block ∙ f .block }
+
+-- the block that runs is still the one before, or it comes of a set of 8001 among the operations that met every condition
+-- on the memory before it, and it is the block of the four values there
+pub data RunningBy (m : List ℕ) (os : List Op) : Type 0 where
+  kept : SameRunning m (after m os) → RunningBy m os
+  committed : (before : List Op) (v : List ℕ) (later : List Op) → os ≡ before ++ (set 0x8001 v ∷ later) → Commits (after m before) v
+      → Runs (after m os) (block (after m before)) → RunningBy m os
+
+-- ---- names and places
+
+placed : (rs : List Row) (d : Row) (n : ℕ) → placeIn rs n < length rs → getD rs (placeIn rs n) d .name ≡ n
+unfolding placeIn
+placed [] d n h = absurd (omega arith)
+placed (r ∷ rs) d n h = go (eqb (r .name) n) refl h (placed rs d n)
+  where
+    go : (b : Bool) → eqb (r .name) n ≡ b → cond b 0 (suc (placeIn rs n)) < suc (length rs)
+        → (placeIn rs n < length rs → getD rs (placeIn rs n) d .name ≡ n) → getD (r ∷ rs) (cond b 0 (suc (placeIn rs n))) d .name ≡ n
+    go true e l ih = eqb-true _ _ e
+    go false e l ih = ih (omega arith)
+
+length-rows : length rows ≡ entryCount
+unfolding rows
+length-rows = refl
+
+pub place-name : (n : ℕ) → listed n ≡ true → rowAt (place n) .name ≡ n
+unfolding rowAt place
+place-name n e = placed rows (row 0 0 0 nobody free) n (rw length-rows (listed-place n e))
+
+commit-name : (n : ℕ) → listed n ≡ true → place n ≡ commit → n ≡ 0x8001
+unfolding rowAt rows
+commit-name n e p = sym (place-name n e) ∙ ap (λ (k : ℕ). rowAt k .name) p
+
+pub commit-listed : (place 0x8001 ≡ commit) × (listed 0x8001 ≡ true) × (byController (rowAt commit .owner) ≡ true)
+unfolding listed place placeIn rows rowAt byController
+commit-listed = (refl, refl, refl)
+
+-- ---- one operation
+
+store-same : (m : List ℕ) (k : ℕ) (v : List ℕ) → Sound m → k < entryCount → length v ≤ rowAt k .most → k ≢ commit → SameRunning m (store m k v)
+unfolding store
+store-same m k v S hk hv ne =
+    record {
+      runs = put-present-other m k true (subscribed m k) (pending m k) v S hk hv commit (omega arith) (λ e. ne (sym e));
+      block = put-body-other m k true (subscribed m k) (pending m k) v S hk hv commit (omega arith) (λ e. ne (sym e));
+    }
+
+store-runs : (m v : List ℕ) → Sound m → length v ≤ rowAt commit .most → Runs (store m commit v) v
+unfolding store
+store-runs m v S hv =
+    record {
+      runs = put-present-same m commit true (subscribed m commit) (pending m commit) v S (omega arith) hv;
+      block = put-body-same m commit true (subscribed m commit) (pending m commit) v S (omega arith) hv;
+    }
+
+remark-same : (m : List ℕ) (k : ℕ) (s q : Bool) → Sound m → k < entryCount → SameRunning m (remark m k s q)
+remark-same m k s q S hk =
+    record { runs = present-remark m k s q S hk commit (omega arith); block = body-remark m k s q S hk commit (omega arith) }
+
+clock-same : (m : List ℕ) (w n : ℕ) → Sound m → SameRunning m (setClock m w n)
+clock-same m w n S =
+    record { runs = present-setClock m w n S commit (omega arith); block = body-setClock m w n S commit (omega arith) }
+
+marks-same : (m : List ℕ) (n : ℕ) (m′ : List ℕ) → (listed n ≡ true → SameRunning m m′) → SameRunning m (cond (listed n) m′ m)
+marks-same m n m′ f = go (listed n) refl
+  where
+    go : (b : Bool) → listed n ≡ b → SameRunning m (cond b m′ m)
+    go true e = f e
+    go false e = same-running m
+
+-- what a set does to the running block: nothing, or it is a commit; c is the cause, 0 where it succeeds
+abbrev SetThen : List ℕ → ℕ → List ℕ → ℕ → Type 0
+SetThen m n v c =
+    SameRunning m (settle c (store m (place n) (stored m (place n) v)) (λ _. m))
+    ⊎ ((n ≡ 0x8001) × Commits m v × Runs (settle c (store m (place n) (stored m (place n) v)) (λ _. m)) (block m))
+
+set-succeeded : (m : List ℕ) (n : ℕ) (v : List ℕ) → Sound m → Settable m n v → Dec (place n ≡ commit) → SetThen m n v 0
+unfolding settle permitted stored
+set-succeeded m n v S t (yes p) =
+    let c : commits m v ≡ true = simp (eq-eqb _ _ p) at (t .allowed) in
+    let h : permits (rowAt commit) (block m) ≡ true = simp p at (stored-permitted m (place n) v (t .allowed) .0) in
+    inr (
+      commit-name n (t .isListed) p,
+      commits-spelt m v S c,
+      simp p (store-runs m (block m) S (permits-most (rowAt commit) (block m) h)),
+    )
+set-succeeded m n v S t (no ne) =
+    let h = permits-most (rowAt (place n)) _ (stored-permitted m (place n) v (t .allowed) .0) in
+    inl (store-same m (place n) (stored m (place n) v) S (listed-place n (t .isListed)) h ne)
+
+set-running : (m : List ℕ) (n : ℕ) (v : List ℕ) → Sound m → SetThen m n v (firstFailed (setChecks m n v))
+unfolding settle
+set-running m n v S = go (firstFailed (setChecks m n v)) refl
+  where
+    go : (c : ℕ) → firstFailed (setChecks m n v) ≡ c → SetThen m n v c
+    go zero e = set-succeeded m n v S (settable m n v e) (ℕ-discrete (place n) commit)
+    go (suc c) e = inl (same-running m)
+
+-- no other operation touches it
+pub step-running : (m : List ℕ) (o : Op) → sound m ≡ true
+    → SameRunning m (step m o) ⊎ ((v : List ℕ) × (o ≡ set 0x8001 v) × Commits m v × Runs (step m o) (block m))
+unfolding step setMemory subscribeMemory unsubscribeMemory
+step-running m capabilities s = inl (same-running m)
+step-running m (read n) s = inl (same-running m)
+step-running m (set n v) s = go (set-running m n v (opened m s))
+  where
+    go : SetThen m n v (firstFailed (setChecks m n v))
+        → SameRunning m (setMemory m n v) ⊎ ((w : List ℕ) × (set n v ≡ set 0x8001 w) × Commits m w × Runs (setMemory m n v) (block m))
+    go (inl k) = inl k
+    go (inr k) = inr (v, ap (λ (i : ℕ). set i v) (k .0), k .1, k .2)
+step-running m (subscribe n) s =
+    inl (marks-same m n _ (λ e. remark-same m (place n) true (pending m (place n)) (opened m s) (listed-place n e)))
+step-running m (unsubscribe n) s =
+    inl (marks-same m n _ (λ e. remark-same m (place n) false false (opened m s) (listed-place n e)))
+
+-- a set of 8001 that meets every condition is carried out
+commit-passes : (m v : List ℕ) → Sound m → Commits m v → firstFailed (setChecks m 0x8001 v) ≡ 0
+unfolding setChecks permitted
+commit-passes m v S c =
+    rw (commit-listed .0)
+    (first-pass 0x01 _ _ (commit-listed .1)
+    (first-pass 0x6F _ _ (commit-listed .2)
+    (first-pass 0x02 _ passed (spelt-commits m v S c) all-passed)))
+
+pub commit-runs : (m v : List ℕ) → sound m ≡ true → Commits m v → Runs (step m (set 0x8001 v)) (block m)
+unfolding step setMemory settle stored permitted
+commit-runs m v s c =
+    let S = opened m s in
+    let h : permits (rowAt commit) (block m) ≡ true = stored-permitted m commit v (spelt-commits m v S c) .0 in
+    rw (commit-passes m v S c, commit-listed .0) (store-runs m (block m) S (permits-most (rowAt commit) (block m) h))
+
+pub commit-answered : (m v : List ℕ) → sound m ≡ true → Commits m v → answer m (set 0x8001 v) ≡ update 0x8001 v
+unfolding answer setAnswer settle
+commit-answered m v s c = rw (commit-passes m v (opened m s) c)
+
+-- ---- a list of operations
+
+run-one : (m : List ℕ) (o : Op) (os : List Op)
+    → SameRunning m (step m o) ⊎ ((v : List ℕ) × (o ≡ set 0x8001 v) × Commits m v × Runs (step m o) (block m))
+    → RunningBy (step m o) os → RunningBy m (o ∷ os)
+unfolding after
+run-one m o os d (committed before v later e c r) = committed (o ∷ before) v later (ap {B = List Op} (λ l. o ∷ l) e) c r
+run-one m o os (inl k) (kept l) = kept (same-then k l)
+run-one m o os (inr k) (kept l) =
+    committed [] (k .0) os (ap {B = List Op} (λ p. p ∷ os) (k .1)) (k .2)
+    record { runs = l .runs ∙ k .3 .runs; block = l .block ∙ k .3 .block }
+
+pub running-after : (m : List ℕ) (os : List Op) → sound m ≡ true → RunningBy m os
+unfolding after
+running-after m [] s = kept (same-running m)
+running-after m (o ∷ os) s = run-one m o os (step-running m o s) (running-after (step m o) os (step-sound m o s))
+
+-- ---- the calls
+
+-- a message: unless it is a command that is carried out, nothing
+pub message-running : (m s room : List ℕ) → sound m ≡ true
+    → SameRunning m (message m s room .memory) ⊎ ((message m s room .memory ≡ after m (opsOf s)) × RunningBy m (opsOf s))
+unfolding message deed carriedOut acknowledged
+message-running m s room h =
+    call-memory (λ n. SameRunning m n ⊎ ((n ≡ after m (opsOf s)) × RunningBy m (opsOf s))) (messageChecks m s (length room)) _ m room
+    (inl (same-running m))
+    (λ e. go (isCommand s))
+  where
+    go : (b : Bool)
+        → SameRunning m (cond b (carriedOut m (opsOf s)) (acknowledged m) .memory)
+        ⊎ ((cond b (carriedOut m (opsOf s)) (acknowledged m) .memory ≡ after m (opsOf s)) × RunningBy m (opsOf s))
+    go true = inr (refl, running-after m (opsOf s) h)
+    go false = inl (clock-same m 0 0 (opened m h))
+
+local-same : (m : List ℕ) (n : ℕ) (v : List ℕ) → Sound m → Local n v → SameRunning m (localMemory m (place n) v)
+unfolding localMemory
+local-same m n v S l =
+    let k = place n in
+    let hk = listed-place n (l .isListed) in
+    let hv = local-held (rowAt k) v (l .allowed) .1 in
+    let ne : commit ≢ k = λ e. false≢true (sym commit-not-port ∙ ap (λ (j : ℕ). byPort (rowAt j .owner)) e ∙ l .byThePort) in
+    let q = pending m k || (subscribed m k && differs m k v) in
+    record {
+      runs = put-present-other m k (nonempty v) (subscribed m k) q v S hk hv commit (omega arith) ne;
+      block = put-body-other m k (nonempty v) (subscribed m k) q v S hk hv commit (omega arith) ne;
+    }
+
+pub localValue-running : (m : List ℕ) (n : ℕ) (v : List ℕ) → sound m ≡ true → SameRunning m (localValue m n v .memory)
+unfolding localValue localChecks
+localValue-running m n v s =
+    call-memory (SameRunning m) (localChecks m n v) _ m [] (same-running m)
+    (λ e. local-same m n v (opened m s) (local-opened n v (first-passed 11 _ _ (first-passed 0 _ _ e .1) .0)))
+
+cleared-same : (k : ℕ) (m : List ℕ) → k ≤ entryCount → sound m ≡ true → SameRunning m (cleared k m)
+unfolding cleared
+cleared-same zero m h s = same-running m
+cleared-same (suc k) m h s =
+    let c = cleared k m in
+    same-then (cleared-same k m (omega arith) s) (remark-same c k (subscribed c k) false (opened c (cleared-sound k m (omega arith) s)) (omega arith))
+
+pub build-running : (m room : List ℕ) → sound m ≡ true → SameRunning m (build m room .memory)
+unfolding build
+build-running m room s =
+    let c = cleared entryCount m in
+    call-memory (SameRunning m) (buildChecks m (length room)) _ m room (same-running m)
+    (λ e. same-then (cleared-same entryCount m (omega arith) s) (clock-same c 1 0 (opened c (cleared-sound entryCount m (omega arith) s))))
+
+pub expiry-running : (m : List ℕ) → sound m ≡ true → SameRunning m (expiry m .memory)
+unfolding expiry expired
+expiry-running m s = call-memory (SameRunning m) (expiryChecks m) _ m [] (same-running m) (λ e. go (ltb (expiries m) 4))
+  where
+    go : (b : Bool) → SameRunning m (cond b (told 20 (setClock m 1 (expiries m + 1)) []) (told 21 (setClock m 0 0) []) .memory)
+    go true = clock-same m 1 (expiries m + 1) (opened m s)
+    go false = clock-same m 0 0 (opened m s)
