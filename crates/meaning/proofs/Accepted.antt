@@ -10,7 +10,7 @@ use lib.Dec.{eqb, leb}
 use borrow.Author.Tests.{leb-true, le-leb, eqb-true}
 use Rattle.meaning.specs.Octets.{octet, every, implies}
 use Rattle.meaning.specs.Checks.{Checks, passed, check, firstFailed, settle}
-use Rattle.meaning.specs.Memory.{sound}
+use Rattle.meaning.specs.Memory.{waiting, sound}
 use Rattle.meaning.specs.Operation.{Op, parse, isSome, orNone}
 use Rattle.meaning.specs.Step.{after}
 use Rattle.meaning.specs.Reply.{complete}
@@ -62,9 +62,20 @@ accepted-passes m s n os a =
     (first-pass 8 _ _ (implies-of _ _ (λ e. absurd (false≢true (sym (one-type s (a .command)) ∙ e))))
     (first-pass 7 _ passed (rw (deed-command m s (a .command), ops-parsed s os (a .parsed)) (fits-closed n m os (a .fit))) all-passed)))))))
 
-pub passes-accepted : (m s : List ℕ) (n : ℕ) → isCommand s ≡ true → firstFailed (messageChecks m s n) ≡ 0 → Accepted m s n (opsOf s)
-unfolding messageChecks lengthRight opsOf
-passes-accepted m s n c e =
+-- what a message's checks say where all pass
+pub record Passed (m s : List ℕ) (n : ℕ) : Type 0 where
+  pub isSound : sound m ≡ true
+  pub nonempty : leb 1 (length s) ≡ true
+  pub short : leb (length s) 2048 ≡ true
+  pub known : (isCommand s || isAcknowledgement s) ≡ true
+  pub lengthIs : implies (isCommand s) (lengthRight s) ≡ true
+  pub wellFormed : implies (isCommand s) (isSome (parse (operations s))) ≡ true
+  pub awaited : implies (isAcknowledgement s) (waiting m) ≡ true
+  pub fit : fits n (deed m s) ≡ true
+
+pub message-passed : (m s : List ℕ) (n : ℕ) → firstFailed (messageChecks m s n) ≡ 0 → Passed m s n
+unfolding messageChecks
+message-passed m s n e =
     let e1 = first-passed 0 _ _ e in
     let e2 = first-passed 1 _ _ (e1 .1) in
     let e3 = first-passed 2 _ _ (e2 .1) in
@@ -73,16 +84,30 @@ passes-accepted m s n c e =
     let e6 = first-passed 5 _ _ (e5 .1) in
     let e8 = first-passed 7 _ _ (e6 .1) in
     let e7 = first-passed 6 _ _ (e8 .1) in
-    let l = implied (isCommand s) _ (e5 .0) c in
-    let f : fits n (carriedOut m (opsOf s)) ≡ true = ap (fits n) (sym (deed-command m s c)) ∙ e7 .0 in
     record {
       isSound = e1 .0;
+      nonempty = e2 .0;
+      short = e3 .0;
+      known = e4 .0;
+      lengthIs = e5 .0;
+      wellFormed = e6 .0;
+      awaited = e8 .0;
+      fit = e7 .0;
+    }
+
+pub passes-accepted : (m s : List ℕ) (n : ℕ) → isCommand s ≡ true → firstFailed (messageChecks m s n) ≡ 0 → Accepted m s n (opsOf s)
+unfolding lengthRight opsOf
+passes-accepted m s n c e =
+    let p = message-passed m s n e in
+    let l = implied (isCommand s) _ (p .lengthIs) c in
+    record {
+      isSound = p .isSound;
       command = c;
-      long = leb-true _ _ (e3 .0);
+      long = leb-true _ _ (p .short);
       nonzero = leb-true _ _ (every-at _ 1 l);
       inside = leb-true _ _ (every-at _ 2 l);
-      parsed = some-of (parse (operations s)) (implied (isCommand s) _ (e6 .0) c);
-      fit = fits-opened n m (opsOf s) f;
+      parsed = some-of (parse (operations s)) (implied (isCommand s) _ (p .wellFormed) c);
+      fit = fits-opened n m (opsOf s) (ap (fits n) (sym (deed-command m s c)) ∙ p .fit);
     }
 
 -- what an accepted command's call gives
@@ -93,9 +118,9 @@ accepted-call m s room os a =
     rw (accepted-passes m s (length room) os a, deed-command m s (a .command), ops-parsed s os (a .parsed))
 
 -- number 0 comes of checks that pass
-pub message-passed : (m s room : List ℕ) → message m s room .number ≡ 0 → firstFailed (messageChecks m s (length room)) ≡ 0
+number-passed : (m s room : List ℕ) → message m s room .number ≡ 0 → firstFailed (messageChecks m s (length room)) ≡ 0
 unfolding message call settle
-message-passed m s room e = go (firstFailed (messageChecks m s (length room))) refl e
+number-passed m s room e = go (firstFailed (messageChecks m s (length room))) refl e
   where
     go : (k : ℕ) → firstFailed (messageChecks m s (length room)) ≡ k
         → settle k (done (deed m s .reply) (deed m s .memory) room) (λ n. told n m room) .number ≡ 0 → firstFailed (messageChecks m s (length room)) ≡ 0
@@ -103,7 +128,7 @@ message-passed m s room e = go (firstFailed (messageChecks m s (length room))) r
     go (suc k) h z = absurd (omega arith)
 
 pub carried-accepted : (m s room : List ℕ) → isCommand s ≡ true → message m s room .number ≡ 0 → Accepted m s (length room) (opsOf s)
-carried-accepted m s room c e = passes-accepted m s (length room) c (message-passed m s room e)
+carried-accepted m s room c e = passes-accepted m s (length room) c (number-passed m s room e)
 
 -- octets written that fit leave the room as long as it was
 pub done-room : (w m room : List ℕ) → length w ≤ length room → length (done w m room .room) ≡ length room

@@ -14,3 +14,5 @@ pub mod Cut
 pub mod Sums
 pub mod Commit
 pub mod Running
+pub mod Notified
+pub mod Refused

@@ -1,0 +1,83 @@
+-- No notification is longer than 559 octets, so that a room of 1,600 always serves.
+use Prim.Native.Nat.{ℕ, zero, suc, _+_, _≤_, _<_}
+use native.Mathlib.Omega.{arith}
+use mathlib.Core.Path.{_≡_, refl, sym, ap, _∙_}
+use mathlib.Core.Bool.{Bool, true, false, _&&_, cond}
+use mathlib.Core.List.{List, [], _∷_, _++_}
+use lib.ListN.{length, length-append}
+use Rattle.meaning.specs.Octets.{be16, flat}
+use Rattle.meaning.specs.Table.{rowAt, rows, byPort, entryCount}
+use Rattle.meaning.specs.Memory.{cell, present, pending, body, isPending, isSubscribed, sound}
+use Rattle.meaning.specs.Step.{Answer, value, readError}
+use Rattle.meaning.specs.Reply.{Records, joined, recordOf, gathered, heldOctets, failedOctets, readContents}
+use Rattle.meaning.specs.Calls.{report, reports, notification}
+use Rattle.meaning.proofs.Lists.{flat-length}
+use Rattle.meaning.proofs.Tests.{and-right, implied}
+use Rattle.meaning.proofs.Sound.{Sound, opened, entry-of}
+use Rattle.meaning.proofs.Records.{gathered-append, read-length}
+use Rattle.meaning.proofs.Answered.{body-length}
+
+-- a record of the longest value, for each name set by the port among the first k
+unfoldable pub longest : ℕ → ℕ
+longest zero = 0
+longest (suc k) = longest k + cond (byPort (rowAt k .owner)) (4 + rowAt k .most) 0
+
+pub longest-all : longest entryCount ≡ 554
+unfolding longest byPort rowAt rows
+longest-all = refl
+
+-- the octets of the records that answer reads
+unfoldable weight : Records → ℕ
+weight r = length (flat heldOctets (r .values)) + length (flat failedOctets (r .readErrors))
+
+weight-joined : (r s : Records) → weight (joined r s) ≡ weight r + weight s
+unfolding weight
+weight-joined r s =
+    omega (arith, flat-length heldOctets (r .values) (s .values), flat-length failedOctets (r .readErrors) (s .readErrors))
+
+held-weight : (n : ℕ) (v : List ℕ) → weight (gathered (value n v ∷ [])) ≡ 4 + length v
+unfolding weight gathered recordOf flat heldOctets be16
+held-weight n v = omega (arith, length-append v [])
+
+failed-weight : (n c : ℕ) → weight (gathered (readError n c ∷ [])) ≡ 3
+unfolding weight gathered recordOf flat failedOctets be16
+failed-weight n c = refl
+
+report-weight : (m : List ℕ) (k : ℕ) → weight (gathered (report m k ∷ [])) ≤ 4 + rowAt k .most
+unfolding report
+report-weight m k = go (present m k)
+  where
+    go : (b : Bool) → weight (gathered (cond b (value (rowAt k .name) (body m k)) (readError (rowAt k .name) 0x03) ∷ [])) ≤ 4 + rowAt k .most
+    go true = omega (arith, held-weight (rowAt k .name) (body m k), body-length m k)
+    go false = omega (arith, failed-weight (rowAt k .name) 0x03)
+
+-- only names set by the port are pending
+pending-port : (m : List ℕ) (k : ℕ) → Sound m → k < entryCount → pending m k ≡ true → byPort (rowAt k .owner) ≡ true
+unfolding pending
+pending-port m k S hk p =
+    and-right (isSubscribed (cell m k)) _ (implied (isPending (cell m k)) _ (entry-of m S k hk .marks) p)
+
+one-weight : (m : List ℕ) (k : ℕ) → Sound m → k < entryCount
+    → weight (gathered (cond (pending m k) (report m k ∷ []) [])) ≤ cond (byPort (rowAt k .owner)) (4 + rowAt k .most) 0
+unfolding weight gathered flat
+one-weight m k S hk = go (pending m k) refl
+  where
+    go : (b : Bool) → pending m k ≡ b → weight (gathered (cond b (report m k ∷ []) [])) ≤ cond (byPort (rowAt k .owner)) (4 + rowAt k .most) 0
+    go true e = rw (pending-port m k S hk e) (report-weight m k)
+    go false e = omega arith
+
+reports-weight : (m : List ℕ) (k : ℕ) → Sound m → k ≤ entryCount → weight (gathered (reports m k)) ≤ longest k
+unfolding reports longest
+reports-weight m zero S h = unfold weight gathered flat in omega arith
+reports-weight m (suc k) S h =
+    let a = reports m k in
+    let b = cond (pending m k) (report m k ∷ []) [] in
+    let e : weight (gathered (a ++ b)) ≡ weight (gathered a) + weight (gathered b) = ap weight (gathered-append a b) ∙ weight-joined (gathered a) (gathered b) in
+    omega (arith, e, reports-weight m k S (omega arith), one-weight m k S (omega arith))
+
+pub notification-most : (m : List ℕ) → sound m ≡ true → length (notification m) ≤ 559
+unfolding notification be16 weight
+notification-most m s =
+    let r = gathered (reports m entryCount) in
+    let w : weight r ≤ longest entryCount = reports-weight m entryCount (opened m s) (omega arith) in
+    omega (arith, read-length r, longest-all, w)

@@ -1,0 +1,176 @@
+-- Law 2: numbers 1 to 12 return length 0 and change no octet of memory or room; 20 and 21 return length 0 and change only octets
+-- 114 and 115; octets of the room after a reply or notification stay.
+use Prim.Native.Nat.{ℕ, zero, suc, _+_, _≤_, _<_}
+use native.Mathlib.Omega.{arith}
+use native.Mathlib.Decide.{decLe}
+use mathlib.Core.Path.{_≡_, refl, sym, ap, _∙_}
+use mathlib.Core.Logic.{_≢_, _⊎_, inl, inr}
+use mathlib.Core.Bool.{Bool, true, false, not, cond}
+use mathlib.Core.List.{List, [], _∷_, _++_}
+use lib.ListN.{length, drop, length-append, length-drop}
+use lib.Dec.{leb, ltb}
+use borrow.Author.Tests.{leb-true}
+use Rattle.meaning.specs.Octets.{octet, part}
+use Rattle.meaning.specs.Checks.{Checks, passed, check, firstFailed, settle}
+use Rattle.meaning.specs.Table.{place, entryCount, clockAt, memoryLength}
+use Rattle.meaning.specs.Memory.{setClock, expiries, sound, fresh}
+use Rattle.meaning.specs.Calls.{Outcome, done, told, call, deed, fits, messageChecks, message, localMemory, localChecks, localValue, notification, cleared, buildChecks, build, expired, expiryChecks, expiry, makeFresh}
+use Rattle.meaning.proofs.Lists.{octet-part}
+use Rattle.meaning.proofs.Tests.{every-at, first-passed}
+use Rattle.meaning.proofs.Places.{setClock-length, part-setClock}
+use Rattle.meaning.proofs.Sound.{opened}
+use Rattle.meaning.proofs.Accepted.{message-passed, done-room}
+use Rattle.meaning.proofs.Notified.{notification-most}
+
+-- ---- the numbers
+
+-- every number of some checks is at most n
+abbrev AtMost : ℕ → Checks → Type 0
+AtMost n passed = Unit {0}
+AtMost n (check k b cs) = (k ≤ n) × AtMost n cs
+
+first-most : (n : ℕ) (cs : Checks) → AtMost n cs → firstFailed cs ≤ n
+unfolding firstFailed
+first-most n passed h = omega arith
+first-most n (check k true cs) h = first-most n cs (h .1)
+first-most n (check k false cs) h = h .0
+
+call-number : (n : ℕ) (cs : Checks) (o : Outcome) (m room : List ℕ) → AtMost n cs → o .number ≤ n → call cs o m room .number ≤ n
+unfolding call settle
+call-number n cs o m room h k = go (firstFailed cs) (first-most n cs h)
+  where
+    go : (f : ℕ) → f ≤ n → settle f o (λ i. told i m room) .number ≤ n
+    go zero l = k
+    go (suc f) l = l
+
+pub message-number : (m s room : List ℕ) → message m s room .number ≤ 8
+unfolding message messageChecks
+message-number m s room = call-number 8 _ _ m room (omega arith) (omega arith)
+
+pub localValue-number : (m : List ℕ) (n : ℕ) (v : List ℕ) → localValue m n v .number ≤ 12
+unfolding localValue localChecks
+localValue-number m n v = call-number 12 _ _ m [] (omega arith) (omega arith)
+
+pub build-number : (m room : List ℕ) → build m room .number ≤ 11
+unfolding build buildChecks
+build-number m room = call-number 11 _ _ m room (omega arith) (omega arith)
+
+pub makeFresh-number : (m : List ℕ) → makeFresh m .number ≤ 1
+unfolding makeFresh
+makeFresh-number m = call-number 1 _ _ m [] (omega arith) (omega arith)
+
+-- 20 and 21 are an expiry's alone
+pub expiry-number : (m : List ℕ) → (expiry m .number ≤ 8) ⊎ ((expiry m .number ≡ 20) ⊎ (expiry m .number ≡ 21))
+unfolding expiry call settle expired expiryChecks
+expiry-number m = go (firstFailed (expiryChecks m)) (first-most 8 (expiryChecks m) (omega arith)) (ltb (expiries m) 4)
+  where
+    go : (f : ℕ) → f ≤ 8 → (b : Bool)
+        → let n = settle f (cond b (told 20 (setClock m 1 (expiries m + 1)) []) (told 21 (setClock m 0 0) [])) (λ i. told i m []) .number in
+        (n ≤ 8) ⊎ ((n ≡ 20) ⊎ (n ≡ 21))
+    go zero l true = inr (inl refl)
+    go zero l false = inr (inr refl)
+    go (suc f) l b = inl l
+
+-- ---- a refusal
+
+pub record Unchanged (o : Outcome) (m room : List ℕ) : Type 0 where
+  pub nothing : o .written ≡ []
+  pub sameMemory : o .memory ≡ m
+  pub sameRoom : o .room ≡ room
+
+refusal : (cs : Checks) (o : Outcome) (m room : List ℕ) → (o .number ≡ 0) ⊎ (12 < o .number) → 1 ≤ call cs o m room .number → call cs o m room .number ≤ 12
+    → Unchanged (call cs o m room) m room
+unfolding call settle
+refusal cs o m room d a b = go (firstFailed cs) d a b
+  where
+    go : (f : ℕ) → (o .number ≡ 0) ⊎ (12 < o .number) → 1 ≤ settle f o (λ i. told i m room) .number → settle f o (λ i. told i m room) .number ≤ 12
+        → Unchanged (settle f o (λ i. told i m room)) m room
+    go zero (inl z) x y = absurd (omega arith)
+    go zero (inr z) x y = absurd (omega arith)
+    go (suc f) z x y = record { nothing = refl; sameMemory = refl; sameRoom = refl }
+
+pub message-refused : (m s room : List ℕ) → 1 ≤ message m s room .number → Unchanged (message m s room) m room
+unfolding message
+message-refused m s room a = refusal (messageChecks m s (length room)) _ m room (inl refl) a (omega (arith, message-number m s room))
+
+pub localValue-refused : (m : List ℕ) (n : ℕ) (v : List ℕ) → 1 ≤ localValue m n v .number → Unchanged (localValue m n v) m []
+unfolding localValue
+localValue-refused m n v a = refusal (localChecks m n v) _ m [] (inl refl) a (omega (arith, localValue-number m n v))
+
+pub build-refused : (m room : List ℕ) → 1 ≤ build m room .number → Unchanged (build m room) m room
+unfolding build
+build-refused m room a = refusal (buildChecks m (length room)) _ m room (inl refl) a (omega (arith, build-number m room))
+
+pub makeFresh-refused : (m : List ℕ) → 1 ≤ makeFresh m .number → Unchanged (makeFresh m) m []
+unfolding makeFresh
+makeFresh-refused m a = refusal _ _ m [] (inl refl) a (omega (arith, makeFresh-number m))
+
+pub expiry-refused : (m : List ℕ) → 1 ≤ expiry m .number → expiry m .number ≤ 12 → Unchanged (expiry m) m []
+unfolding expiry expired
+expiry-refused m a b = refusal (expiryChecks m) (expired m) m [] (inr (go (ltb (expiries m) 4))) a b
+  where
+    go : (c : Bool) → 12 < cond c (told 20 (setClock m 1 (expiries m + 1)) []) (told 21 (setClock m 0 0) []) .number
+    go true = omega arith
+    go false = omega arith
+
+-- ---- 20 and 21
+
+-- nothing written, and only octets 114 and 115 may differ
+pub record OnlyClock (o : Outcome) (m : List ℕ) : Type 0 where
+  pub written : o .written ≡ []
+  pub long : length (o .memory) ≡ length m
+  pub others : (i : ℕ) → i ≢ 114 → i ≢ 115 → octet (o .memory) i ≡ octet m i
+
+clock-others : (m : List ℕ) (w n : ℕ) → length m ≡ memoryLength → (i : ℕ) → i ≢ 114 → i ≢ 115 → octet (setClock m w n) i ≡ octet m i
+clock-others m w n hm i a b =
+    sym (octet-part (setClock m w n) i) ∙ ap (λ (s : List ℕ). octet s 0) (part-setClock m w n hm i 1 (apart (decLe 116 i))) ∙ octet-part m i
+  where
+    apart : Dec (116 ≤ i) → (i + 1 ≤ clockAt) ⊎ (clockAt + 2 ≤ i)
+    apart (yes h) = inr h
+    apart (no h) = inl (omega arith)
+
+pub expiry-clock : (m : List ℕ) → 12 < expiry m .number → OnlyClock (expiry m) m
+unfolding expiry call settle expired expiryChecks
+expiry-clock m a = go (firstFailed (expiryChecks m)) refl (first-most 8 (expiryChecks m) (omega arith)) a (ltb (expiries m) 4)
+  where
+    set : sound m ≡ true → (k w n : ℕ) → OnlyClock (told k (setClock m w n) []) m
+    set s k w n =
+        let hm = opened m s .long in
+        record { written = refl; long = setClock-length m w n hm ∙ sym hm; others = clock-others m w n hm }
+
+    go : (f : ℕ) → firstFailed (expiryChecks m) ≡ f → f ≤ 8 → 12 < settle f (expired m) (λ i. told i m []) .number → (b : Bool)
+        → OnlyClock (settle f (cond b (told 20 (setClock m 1 (expiries m + 1)) []) (told 21 (setClock m 0 0) [])) (λ i. told i m [])) m
+    go zero e l h true = set (first-passed 0 _ _ e .0) 20 1 (expiries m + 1)
+    go zero e l h false = set (first-passed 0 _ _ e .0) 21 0 0
+    go (suc f) e l h b = absurd (omega arith)
+
+-- ---- the room
+
+-- what is written stands at the room's start, and the octets after it stay
+pub record RoomAfter (o : Outcome) (room : List ℕ) : Type 0 where
+  pub inRoom : length (o .written) ≤ length room
+  pub long : length (o .room) ≡ length room
+  pub after : o .room ≡ o .written ++ drop (length (o .written)) room
+
+call-room : (cs : Checks) (w m′ m room : List ℕ) → (firstFailed cs ≡ 0 → length w ≤ length room) → RoomAfter (call cs (done w m′ room) m room) room
+unfolding call settle
+call-room cs w m′ m room h = go (firstFailed cs) refl
+  where
+    go : (f : ℕ) → firstFailed cs ≡ f → RoomAfter (settle f (done w m′ room) (λ i. told i m room)) room
+    go zero e = record { inRoom = h e; long = done-room w m′ room (h e); after = refl }
+    go (suc f) e = record { inRoom = omega arith; long = refl; after = refl }
+
+pub message-room : (m s room : List ℕ) → RoomAfter (message m s room) room
+unfolding message fits
+message-room m s room =
+    call-room (messageChecks m s (length room)) (deed m s .reply) (deed m s .memory) m room
+    (λ e. leb-true _ _ (every-at _ 0 (message-passed m s (length room) e .fit)))
+
+pub build-room : (m room : List ℕ) → RoomAfter (build m room) room
+unfolding build buildChecks
+build-room m room =
+    call-room (buildChecks m (length room)) (notification m) (setClock (cleared entryCount m) 1 0) m room
+    (λ e.
+        let e1 = first-passed 0 _ _ e in
+        let e11 = first-passed 10 _ _ (e1 .1) in
+        omega (arith, notification-most m (e1 .0), leb-true 1600 (length room) (e11 .0)))
