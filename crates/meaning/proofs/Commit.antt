@@ -67,7 +67,7 @@ module _ (b c l r : List ℕ) (hb : length b ≡ 10) (hc : length c ≡ 4) (hr :
 
 -- ---- the values of sound memory that are present
 
-permits-length : (r : Row) (v : List ℕ) → permits r v ≡ true → (r .least ≤ length v) × (length v ≤ r .most)
+pub permits-length : (r : Row) (v : List ℕ) → permits r v ≡ true → (r .least ≤ length v) × (length v ≤ r .most)
 unfolding permits
 permits-length r v e = (leb-true _ _ (every-at _ 0 e), leb-true _ _ (every-at _ 1 e))
 

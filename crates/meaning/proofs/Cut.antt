@@ -16,7 +16,7 @@ use Rattle.meaning.specs.Reply.{Records, noRecords, joined, gathered, co
 use Rattle.meaning.specs.Calls.{Outcome, done, isCommand, lengthField, operations, opsOf, records, message}
 use Rattle.meaning.proofs.Lists.{Each, Octets, each-append, each-left, each-right, octets-part, at16-be16, flat-append}
 use Rattle.meaning.proofs.Kept.{after-sound}
-use Rattle.meaning.proofs.Encode.{encode, Fine, parse-encoded, parse-spelt, parse-nil}
+use Rattle.meaning.proofs.Encode.{encode, encode-some, Fine, parse-encoded, parse-spelt, parse-nil}
 use Rattle.meaning.proofs.Records.{Fits, fits-left, fits-right, after-append, records-append}
 use Rattle.meaning.proofs.Decode.{decode, decode-complete, Good}
 use Rattle.meaning.proofs.Answered.{Answered, answered, records-good}
@@ -209,3 +209,45 @@ module _ (m s room : List ℕ) (o : Octets s) (c : isCommand s ≡ true) (n : me
       let fit : Fits (length room) (records m (opsInAll parts)) = subst (λ (os : List Op). Fits (length room) (records m os)) q (accepted .fit) in
       let k = cut-parts parts m room (accepted .isSound) hs oc (omega (arith, accepted .inside, accepted .long)) fit in
       rw (replied, accepted-call m s room (opsOf s) accepted, q) k
+
+-- ---- the same over operations: any cut of the list of operations is a cut of its octets
+
+unfoldable pub spelt : List (List Op) → List (List ℕ)
+spelt [] = []
+spelt (os ∷ oss) = flat encode os ∷ spelt oss
+
+unfoldable pub allOps : List (List Op) → List Op
+allOps [] = []
+allOps (os ∷ oss) = os ++ allOps oss
+
+abbrev pub NonEmpty : List Op → Type 0
+NonEmpty os = 1 ≤ length os
+
+spelt-some : (os : List Op) → NonEmpty os → 1 ≤ length (flat encode os)
+unfolding flat
+spelt-some [] h = absurd (omega arith)
+spelt-some (o ∷ os) h = omega (arith, encode-some o, length-append (encode o) (flat encode os))
+
+spelt-joined : (oss : List (List Op)) → joinedParts (spelt oss) ≡ flat encode (allOps oss)
+unfolding spelt allOps flat
+spelt-joined [] = refl
+spelt-joined (os ∷ oss) = ap (λ (l : List ℕ). flat encode os ++ l) (spelt-joined oss) ∙ sym (flat-append encode os (allOps oss))
+
+spelt-parts : (oss : List (List Op)) → Each NonEmpty oss → Each Fine (allOps oss) → Each Part (spelt oss)
+unfolding spelt allOps
+spelt-parts [] n f = tt
+spelt-parts (os ∷ oss) n f =
+    (
+      record { nonzero = spelt-some os (n .0); whole = ap isSome (parse-encoded os (each-left Fine os (allOps oss) f)) },
+      spelt-parts oss (n .1) (each-right Fine os (allOps oss) f),
+    )
+
+pub cut-operations : (m s room : List ℕ) → Octets s → isCommand s ≡ true → message m s room .number ≡ 0
+    → (oss : List (List Op)) → Each NonEmpty oss → allOps oss ≡ opsOf s
+    → Cut m room (spelt oss) (message m s room .memory) (decode (message m s room .written))
+unfolding operations
+cut-operations m s room o c n oss h e =
+    let a = accepted m s room o c n in
+    let w = parse-spelt (operations s) (opsOf s) (octets-part s 3 (lengthField s) o) (a .parsed) in
+    let f : Each Fine (allOps oss) = rw e (w .1) in
+    cut m s room o c n (spelt oss) (spelt-parts oss h f) (spelt-joined oss ∙ ap (flat encode) e ∙ sym (w .0))

@@ -16,3 +16,6 @@ pub mod Commit
 pub mod Running
 pub mod Notified
 pub mod Refused
+pub mod Spelt
+pub mod Marks
+pub mod Ignored

@@ -241,11 +241,11 @@ module _ (m : List ℕ) (k : ℕ) (s q : Bool) (S : Sound m) (hk : k < entryCoun
   abbrev flags-now : ℕ
   flags-now = flags (present m k) s q
 
-  cell-remark-same : cell (remark m k s q) k ≡ cellOf k flags-now (size (cell m k))
+  pub cell-remark-same : cell (remark m k s q) k ≡ cellOf k flags-now (size (cell m k))
   unfolding remark
   cell-remark-same = cell-putCell-same m k flags-now (size (cell m k)) (S .long) hk
 
-  cell-remark-other : (j : ℕ) → j ≢ k → cell (remark m k s q) j ≡ cell m j
+  pub cell-remark-other : (j : ℕ) → j ≢ k → cell (remark m k s q) j ≡ cell m j
   unfolding remark
   cell-remark-other j ne = cell-putCell-other m k flags-now (size (cell m k)) (S .long) hk j ne
 

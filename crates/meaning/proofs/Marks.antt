@@ -1,0 +1,164 @@
+-- What the subscribed and pending marks do: a set never marks anything pending, subscribe and unsubscribe, a local value.
+use Prim.Native.Nat.{ℕ, zero, suc, _+_, _≤_, _<_}
+use native.Mathlib.Omega.{arith}
+use native.Mathlib.Decide.{ℕ-discrete}
+use mathlib.Core.Path.{_≡_, refl, sym, ap, _∙_}
+use mathlib.Core.Logic.{_≢_, _↔_}
+use mathlib.Core.Bool.{Bool, true, false, _&&_, _||_, not, cond, false≢true}
+use mathlib.Core.List.{List, [], _∷_}
+use lib.ListN.{length}
+use lib.Dec.{eqb, leb}
+use borrow.Author.Tests.{leb-true, eqb-true}
+use Rattle.meaning.specs.Octets.{same, nonempty, below, implies}
+use Rattle.meaning.specs.Checks.{firstFailed, settle}
+use Rattle.meaning.specs.Table.{rowAt, rows, place, listed, byPort, entryCount}
+use Rattle.meaning.specs.Block.{permits}
+use Rattle.meaning.specs.Memory.{cell, room, size, body, flags, put, store, remark, isSubscribed, isPending, isPresent, present, subscribed, pending, sound}
+use Rattle.meaning.specs.Step.{stored, setChecks, setMemory, subscribeMemory, unsubscribeMemory}
+use Rattle.meaning.specs.Calls.{differs, localMemory}
+use Rattle.meaning.proofs.Tests.{same-true, same-refl, every-at, implied, implies-of, below-at}
+use Rattle.meaning.proofs.Places.{listed-place, cell-put-same, cell-put-other}
+use Rattle.meaning.proofs.Sound.{Sound, opened, entry-of, subscribed-cellOf, pending-cellOf, cell-remark-same, cell-remark-other}
+use Rattle.meaning.proofs.Kept.{permits-most, stored-permitted, settable, Local, local-held}
+use Rattle.meaning.proofs.Commit.{body-permitted, permits-length}
+
+-- the marks of the entry at place j
+pub record Marked (m : List ℕ) (j : ℕ) (s q : Bool) : Type 0 where
+  pub subscription : subscribed m j ≡ s
+  pub pendency : pending m j ≡ q
+
+-- both marks of an entry as they were
+abbrev pub SameMarks : List ℕ → List ℕ → ℕ → Type 0
+SameMarks m m′ j = Marked m′ j (subscribed m j) (pending m j)
+
+-- ---- an entry put, and marks set
+
+module _ (m : List ℕ) (k : ℕ) (p s q : Bool) (v : List ℕ) (S : Sound m) (hk : k < entryCount) (hv : length v ≤ rowAt k .most) where
+  put-marks : Marked (put m k (flags p s q) v) k s q
+  unfolding subscribed pending
+  put-marks =
+      let e = cell-put-same m k (flags p s q) v (S .long) hk hv in
+      record { subscription = rw e (subscribed-cellOf k p s q (length v)); pendency = rw e (pending-cellOf k p s q (length v)) }
+
+  put-marks-other : (j : ℕ) → j < entryCount → j ≢ k → SameMarks m (put m k (flags p s q) v) j
+  unfolding subscribed pending
+  put-marks-other j hj ne =
+      let e = cell-put-other m k (flags p s q) v (S .long) hk hv j hj ne in
+      record { subscription = rw e; pendency = rw e }
+
+module _ (m : List ℕ) (k : ℕ) (s q : Bool) (S : Sound m) (hk : k < entryCount) where
+  remark-marks : Marked (remark m k s q) k s q
+  unfolding subscribed pending
+  remark-marks =
+      let e = cell-remark-same m k s q S hk in
+      record {
+        subscription = rw e (subscribed-cellOf k (present m k) s q (size (cell m k)));
+        pendency = rw e (pending-cellOf k (present m k) s q (size (cell m k)));
+      }
+
+  remark-marks-other : (j : ℕ) → j ≢ k → SameMarks m (remark m k s q) j
+  unfolding subscribed pending
+  remark-marks-other j ne =
+      let e = cell-remark-other m k s q S hk j ne in
+      record { subscription = rw e; pendency = rw e }
+
+-- ---- a set never marks anything pending, nor touches a subscription
+
+pub set-marks : (m : List ℕ) (n : ℕ) (v : List ℕ) → sound m ≡ true → (j : ℕ) → j < entryCount → SameMarks m (setMemory m n v) j
+unfolding setMemory settle store
+set-marks m n v s j hj = go (firstFailed (setChecks m n v)) refl
+  where
+    put-there : firstFailed (setChecks m n v) ≡ 0 → Dec (j ≡ place n) → SameMarks m (store m (place n) (stored m (place n) v)) j
+    put-there e d =
+        let t = settable m n v e in
+        let k = place n in
+        let w = stored m k v in
+        let hk = listed-place n (t .isListed) in
+        let hv = permits-most (rowAt k) w (stored-permitted m k v (t .allowed) .0) in
+        let at : Dec (j ≡ k) → SameMarks m (put m k (flags true (subscribed m k) (pending m k)) w) j =
+            elim [ yes i ↦ rw i (put-marks m k true (subscribed m k) (pending m k) w (opened m s) hk hv)
+                 | no ne ↦ put-marks-other m k true (subscribed m k) (pending m k) w (opened m s) hk hv j hj ne ] in
+        at d
+
+    go : (c : ℕ) → firstFailed (setChecks m n v) ≡ c → SameMarks m (settle c (store m (place n) (stored m (place n) v)) (λ _. m)) j
+    go zero e = put-there e (ℕ-discrete j (place n))
+    go (suc c) e = record { subscription = refl; pendency = refl }
+
+-- ---- subscribe sets the mark; unsubscribe clears subscribed and pending
+
+pub subscribe-marks : (m : List ℕ) (n : ℕ) → sound m ≡ true → listed n ≡ true → Marked (subscribeMemory m n) (place n) true (pending m (place n))
+unfolding subscribeMemory
+subscribe-marks m n s e = rw e (remark-marks m (place n) true (pending m (place n)) (opened m s) (listed-place n e))
+
+pub unsubscribe-marks : (m : List ℕ) (n : ℕ) → sound m ≡ true → listed n ≡ true → Marked (unsubscribeMemory m n) (place n) false false
+unfolding unsubscribeMemory
+unsubscribe-marks m n s e = rw e (remark-marks m (place n) false false (opened m s) (listed-place n e))
+
+pub subscribe-others : (m : List ℕ) (n : ℕ) → sound m ≡ true → listed n ≡ true → (j : ℕ) → j ≢ place n → SameMarks m (subscribeMemory m n) j
+unfolding subscribeMemory
+subscribe-others m n s e j ne = rw e (remark-marks-other m (place n) true (pending m (place n)) (opened m s) (listed-place n e) j ne)
+
+pub unsubscribe-others : (m : List ℕ) (n : ℕ) → sound m ≡ true → listed n ≡ true → (j : ℕ) → j ≢ place n → SameMarks m (unsubscribeMemory m n) j
+unfolding unsubscribeMemory
+unsubscribe-others m n s e j ne = rw e (remark-marks-other m (place n) false false (opened m s) (listed-place n e) j ne)
+
+-- on unlisted names they do nothing
+pub unlisted-nothing : (m : List ℕ) (n : ℕ) → listed n ≡ false → (subscribeMemory m n ≡ m) × (unsubscribeMemory m n ≡ m)
+unfolding subscribeMemory unsubscribeMemory
+unlisted-nothing m n e = (rw e, rw e)
+
+-- ---- a local value: pending if it was, or if the name is subscribed and the value or its presence differs
+
+pub local-marks-after : (m : List ℕ) (n : ℕ) (v : List ℕ) → sound m ≡ true → Local n v
+    → Marked (localMemory m (place n) v) (place n) (subscribed m (place n)) (pending m (place n) || (subscribed m (place n) && differs m (place n) v))
+unfolding localMemory
+local-marks-after m n v s l =
+    put-marks m (place n) (nonempty v) (subscribed m (place n)) _ v (opened m s) (listed-place n (l .isListed)) (local-held (rowAt (place n)) v (l .allowed) .1)
+
+-- no value that the port sets is empty
+abbrev never-empty : ℕ → Bool
+never-empty k = implies (byPort (rowAt k .owner)) (leb 1 (rowAt k .least))
+
+all-never-empty : below entryCount never-empty ≡ true
+unfolding below implies byPort rowAt rows
+all-never-empty = refl
+
+nonempty-some : (w : List ℕ) → 1 ≤ length w → nonempty w ≡ true
+nonempty-some [] h = absurd (omega arith)
+nonempty-some (x ∷ w) h = refl
+
+absent-empty : (m : List ℕ) (k : ℕ) → Sound m → k < entryCount → present m k ≡ false → body m k ≡ []
+unfolding present body
+absent-empty m k S hk p =
+    let e : size (cell m k) ≡ 0 = eqb-true _ _ (rw p at (entry-of m S k hk .held)) in
+    rw e
+
+pub present-nonempty : (m : List ℕ) (k : ℕ) → Sound m → k < entryCount → byPort (rowAt k .owner) ≡ true → present m k ≡ nonempty (body m k)
+present-nonempty m k S hk o = go (present m k) refl
+  where
+    least : 1 ≤ rowAt k .least
+    least = leb-true _ _ (implied _ _ (below-at entryCount never-empty all-never-empty k hk) o)
+
+    go : (b : Bool) → present m k ≡ b → present m k ≡ nonempty (body m k)
+    go true p =
+        let h = permits-length (rowAt k) (body m k) (body-permitted m S k hk p) in
+        p ∙ sym (nonempty-some (body m k) (omega (arith, least)))
+    go false p = p ∙ sym (ap nonempty (absent-empty m k S hk p))
+
+-- so it differs exactly if the value or its presence does
+pub differs-not : (m : List ℕ) (k : ℕ) (v : List ℕ) → Sound m → k < entryCount → byPort (rowAt k .owner) ≡ true
+    → (differs m k v ≡ false) ↔ ((body m k ≡ v) × (present m k ≡ nonempty v))
+unfolding differs
+differs-not m k v S hk o = (to, from)
+  where
+    not-false : (b : Bool) → not b ≡ false → b ≡ true
+    not-false true h = refl
+    not-false false h = absurd (false≢true (sym h))
+
+    to : not (same (body m k) v) ≡ false → (body m k ≡ v) × (present m k ≡ nonempty v)
+    to d =
+        let e = same-true (body m k) v (not-false (same (body m k) v) d) in
+        (e, present-nonempty m k S hk o ∙ ap nonempty e)
+
+    from : (body m k ≡ v) × (present m k ≡ nonempty v) → not (same (body m k) v) ≡ false
+    from e = rw (e .0, same-refl v)
