@@ -158,7 +158,7 @@ answered m (unsubscribe n ∷ os) = unsubscribes (answered (unsubscribeMemory m 
 
 -- ---- every record of a run can be read back: its name and its length have two octets each
 
-abbrev GoodAnswer : Answer → Type 0
+abbrev pub GoodAnswer : Answer → Type 0
 GoodAnswer names = Unit {0}
 GoodAnswer (value n v) = (n < 65536) × (length v < 65536)
 GoodAnswer (readError n c) = n < 65536
@@ -198,7 +198,7 @@ answer-good m (set n v) f = settled-good GoodAnswer (firstFailed (setChecks m n 
 answer-good m (subscribe n) f = tt
 answer-good m (unsubscribe n) f = tt
 
-good-joined : (r s : Records) → Good r → Good s → Good (joined r s)
+pub good-joined : (r s : Records) → Good r → Good s → Good (joined r s)
 good-joined r s f g =
     record {
       values = each-append GoodHeld (r .values) (s .values) (f .values) (g .values);
@@ -208,7 +208,7 @@ good-joined r s f g =
       longUpdates = each-append GoodHeld (r .longUpdates) (s .longUpdates) (f .longUpdates) (g .longUpdates);
     }
 
-good-record : (a : Answer) → GoodAnswer a → Good (recordOf a)
+pub good-record : (a : Answer) → GoodAnswer a → Good (recordOf a)
 unfolding recordOf
 good-record names g = record { values = tt; readErrors = tt; updates = tt; updateErrors = tt; longUpdates = tt }
 good-record (value n v) g = record { values = (g, tt); readErrors = tt; updates = tt; updateErrors = tt; longUpdates = tt }

@@ -37,7 +37,7 @@ module _ (b c l r : List ℕ) (hb : length b ≡ 10) (hc : length c ≡ 4) (hr :
   unfolding listOf joinedBlock part
   list-joined =
       let n : length (b ++ (c ++ (l ++ r))) - 22 ≡ length l =
-          omega (arith, length-append b (c ++ (l ++ r)), length-append c (l ++ r), length-append l r) in
+      omega (arith, length-append b (c ++ (l ++ r)), length-append c (l ++ r), length-append l r) in
       let e : b ++ (c ++ (l ++ r)) ≡ b ++ c ++ (l ++ r) = sym (append-assoc b c (l ++ r)) in
       rw (n, e, drop-at (b ++ c) (l ++ r) 14 (omega (arith, length-append b c))) (take-at l r (length l) refl)
 
@@ -45,7 +45,7 @@ module _ (b c l r : List ℕ) (hb : length b ≡ 10) (hc : length c ≡ 4) (hr :
   unfolding ratioOf joinedBlock part
   ratio-joined =
       let n : length (b ++ (c ++ (l ++ r))) - 8 ≡ 14 + length l =
-          omega (arith, length-append b (c ++ (l ++ r)), length-append c (l ++ r), length-append l r) in
+      omega (arith, length-append b (c ++ (l ++ r)), length-append c (l ++ r), length-append l r) in
       let e : b ++ (c ++ (l ++ r)) ≡ b ++ c ++ l ++ r = simp append-assoc in
       let k : length (b ++ c ++ l) ≡ 14 + length l = omega (arith, length-append b c, length-append (b ++ c) l) in
       rw (n, e, drop-at (b ++ c ++ l) r (14 + length l) k) (ap (λ (i : ℕ). take i r) (sym hr) ∙ take-length r)

@@ -167,7 +167,7 @@ cut-more p ps law m room s hs o long fit =
     let room1 : List ℕ = done (complete r1) m1 room .room in
     let k : length room1 ≡ length room = done-room (complete r1) m1 room (fit1 .inRoom) in
     let ih : Cut m1 room1 ps (after m1 b) r2 =
-        law m1 room1 (after-sound m a s) (hs .1) (each-right (λ x. x < 256) p q o) (omega arith) (rw k (fits-right (length room) r1 r2 fit2)) in
+    law m1 room1 (after-sound m a s) (hs .1) (each-right (λ x. x < 256) p q o) (omega arith) (rw k (fits-right (length room) r1 r2 fit2)) in
     rw (e, after-append m a b) (cut-cons p ps m room (after m1 b) r1 r2 (z .0) (z .1) (rw d ih))
 
 cut-parts : (parts : List (List ℕ)) → Law parts
@@ -236,11 +236,10 @@ spelt-joined (os ∷ oss) = ap (λ (l : List ℕ). flat encode os ++ l) (spelt-j
 spelt-parts : (oss : List (List Op)) → Each NonEmpty oss → Each Fine (allOps oss) → Each Part (spelt oss)
 unfolding spelt allOps
 spelt-parts [] n f = tt
-spelt-parts (os ∷ oss) n f =
-    (
-      record { nonzero = spelt-some os (n .0); whole = ap isSome (parse-encoded os (each-left Fine os (allOps oss) f)) },
-      spelt-parts oss (n .1) (each-right Fine os (allOps oss) f),
-    )
+spelt-parts (os ∷ oss) n f = (
+  record { nonzero = spelt-some os (n .0); whole = ap isSome (parse-encoded os (each-left Fine os (allOps oss) f)) },
+  spelt-parts oss (n .1) (each-right Fine os (allOps oss) f),
+)
 
 pub cut-operations : (m s room : List ℕ) → Octets s → isCommand s ≡ true → message m s room .number ≡ 0
     → (oss : List (List Op)) → Each NonEmpty oss → allOps oss ≡ opsOf s

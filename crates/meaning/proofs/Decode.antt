@@ -138,10 +138,10 @@ pub record Good (r : Records) : Type 0 where
 abbrev needed : Bool → List ℕ → List ℕ
 needed b c = cond b c []
 
-abbrev Reads : List Held → List Failed → List ℕ → Type 0
+abbrev pub Reads : List Held → List Failed → List ℕ → Type 0
 Reads vs es c = (counted readHeld c .0 ≡ vs) × (counted readFailed (counted readHeld c .1) .0 ≡ es)
 
-reads-full : (r : Records) → Good r → Reads (r .values) (r .readErrors) (readContents r)
+pub reads-full : (r : Records) → Good r → Reads (r .values) (r .readErrors) (readContents r)
 unfolding readContents
 reads-full r g =
     let e = counted-back heldOctets readHeld GoodHeld held-back (r .values) (length (r .readErrors) ∷ flat failedOctets (r .readErrors)) (g .values) in
@@ -184,8 +184,7 @@ sets-full r g =
     let es = r .updateErrors in
     let ls = longOctets (r .longUpdates) in
     let e = counted-back shortOctets readShort GoodHeld short-back us (length es ∷ flat failedOctets es ++ ls) (g .updates) in
-    let h = counted-back failedOctets readFailed GoodFailed failed-back es ls (g .updateErrors) in
-    (
+    let h = counted-back failedOctets readFailed GoodFailed failed-back es ls (g .updateErrors) in (
       ap (λ (p : List Held × List ℕ). p .0) e,
       rw (e, h),
       rw (e, h) (long-back (r .longUpdates) (length (setContents r)) (g .longUpdates) (omega (arith, set-length r))),
@@ -239,14 +238,14 @@ decode-complete r g h =
     let b = sets-back r g in
     rw (p, q, s)
     (λ i.
-        record {
-          capabilities = r .capabilities;
-          values = a .0 i;
-          readErrors = a .1 i;
-          updates = b .0 i;
-          updateErrors = b .1 i;
-          longUpdates = b .2 i;
-        })
+    record {
+      capabilities = r .capabilities;
+      values = a .0 i;
+      readErrors = a .1 i;
+      updates = b .0 i;
+      updateErrors = b .1 i;
+      longUpdates = b .2 i;
+    })
 
 -- no two records have one reply
 pub complete-injective : (r s : Records) → Good r → Good s → length (complete r) ≤ 4096 → complete r ≡ complete s → r ≡ s

@@ -157,8 +157,7 @@ valued-right c f fine enc =
         let n : ℕ = a * 256 + b in
         let l : length (take n r) ≡ n = length-take-le n r (omega arith) in
         let d : drop (4 + n) (x ∷ y ∷ a ∷ b ∷ r) ≡ drop n r = sym (drop-drop n 4 (x ∷ y ∷ a ∷ b ∷ r)) in
-        let o4 : Octets r = os .1 .1 .1 .1 in
-        (
+        let o4 : Octets r = os .1 .1 .1 .1 in (
           rw (d, enc, l, be16-at16 x y (os .0) (os .1 .0), be16-at16 a b (os .1 .1 .0) (os .1 .1 .1 .0), take-append-drop n r),
           fine (x * 256 + y) (take n r) (omega arith) (omega (arith, l, os .1 .1 .0, os .1 .1 .1 .0)),
           rw d (each-drop (λ i. i < 256) n r o4),

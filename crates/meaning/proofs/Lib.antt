@@ -19,3 +19,4 @@ pub mod Refused
 pub mod Spelt
 pub mod Marks
 pub mod Ignored
+pub mod Timer

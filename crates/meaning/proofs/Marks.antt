@@ -47,7 +47,7 @@ module _ (m : List ℕ) (k : ℕ) (p s q : Bool) (v : List ℕ) (S : Sound m) (h
       record { subscription = rw e; pendency = rw e }
 
 module _ (m : List ℕ) (k : ℕ) (s q : Bool) (S : Sound m) (hk : k < entryCount) where
-  remark-marks : Marked (remark m k s q) k s q
+  pub remark-marks : Marked (remark m k s q) k s q
   unfolding subscribed pending
   remark-marks =
       let e = cell-remark-same m k s q S hk in
@@ -56,7 +56,7 @@ module _ (m : List ℕ) (k : ℕ) (s q : Bool) (S : Sound m) (hk : k < entryCoun
         pendency = rw e (pending-cellOf k (present m k) s q (size (cell m k)));
       }
 
-  remark-marks-other : (j : ℕ) → j ≢ k → SameMarks m (remark m k s q) j
+  pub remark-marks-other : (j : ℕ) → j ≢ k → SameMarks m (remark m k s q) j
   unfolding subscribed pending
   remark-marks-other j ne =
       let e = cell-remark-other m k s q S hk j ne in
@@ -76,8 +76,10 @@ set-marks m n v s j hj = go (firstFailed (setChecks m n v)) refl
         let hk = listed-place n (t .isListed) in
         let hv = permits-most (rowAt k) w (stored-permitted m k v (t .allowed) .0) in
         let at : Dec (j ≡ k) → SameMarks m (put m k (flags true (subscribed m k) (pending m k)) w) j =
-            elim [ yes i ↦ rw i (put-marks m k true (subscribed m k) (pending m k) w (opened m s) hk hv)
-                 | no ne ↦ put-marks-other m k true (subscribed m k) (pending m k) w (opened m s) hk hv j hj ne ] in
+        elim [
+          | yes i ↦ rw i (put-marks m k true (subscribed m k) (pending m k) w (opened m s) hk hv)
+          | no ne ↦ put-marks-other m k true (subscribed m k) (pending m k) w (opened m s) hk hv j hj ne
+        ] in
         at d
 
     go : (c : ℕ) → firstFailed (setChecks m n v) ≡ c → SameMarks m (settle c (store m (place n) (stored m (place n) v)) (λ _. m)) j

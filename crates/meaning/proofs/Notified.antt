@@ -1,21 +1,23 @@
--- No notification is longer than 559 octets, so that a room of 1,600 always serves.
+-- No notification is longer than 559 octets, so that a room of 1,600 always serves; and what it says can be read back.
 use Prim.Native.Nat.{ℕ, zero, suc, _+_, _≤_, _<_}
 use native.Mathlib.Omega.{arith}
 use mathlib.Core.Path.{_≡_, refl, sym, ap, _∙_}
 use mathlib.Core.Bool.{Bool, true, false, _&&_, cond}
 use mathlib.Core.List.{List, [], _∷_, _++_}
-use lib.ListN.{length, length-append}
+use lib.ListN.{length, drop, length-append}
 use Rattle.meaning.specs.Octets.{be16, flat}
 use Rattle.meaning.specs.Table.{rowAt, rows, byPort, entryCount}
 use Rattle.meaning.specs.Memory.{cell, present, pending, body, isPending, isSubscribed, sound}
 use Rattle.meaning.specs.Step.{Answer, value, readError}
-use Rattle.meaning.specs.Reply.{Records, joined, recordOf, gathered, heldOctets, failedOctets, readContents}
+use Rattle.meaning.specs.Reply.{Records, noRecords, joined, recordOf, gathered, heldOctets, failedOctets, readContents}
 use Rattle.meaning.specs.Calls.{report, reports, notification}
 use Rattle.meaning.proofs.Lists.{flat-length}
 use Rattle.meaning.proofs.Tests.{and-right, implied}
 use Rattle.meaning.proofs.Sound.{Sound, opened, entry-of}
 use Rattle.meaning.proofs.Records.{gathered-append, read-length}
-use Rattle.meaning.proofs.Answered.{body-length}
+use Rattle.meaning.proofs.Places.{name-small, most-small}
+use Rattle.meaning.proofs.Decode.{recordsIn, counted, many, toEnd, Good, reads-full}
+use Rattle.meaning.proofs.Answered.{body-length, good-joined, good-record}
 
 -- a record of the longest value, for each name set by the port among the first k
 unfoldable pub longest : ℕ → ℕ
@@ -81,3 +83,73 @@ notification-most m s =
     let r = gathered (reports m entryCount) in
     let w : weight r ≤ longest entryCount = reports-weight m entryCount (opened m s) (omega arith) in
     omega (arith, read-length r, longest-all, w)
+
+-- ---- a notification is read back: its records are those of the pending names
+
+unfoldable pub decodeNotification : List ℕ → Records
+decodeNotification s = recordsIn false (drop 3 s) []
+
+-- a report is a value or a read error, with a name and a length of two octets each
+pub record Report (r : Records) : Type 0 where
+  pub good : Good r
+  pub noNames : r .capabilities ≡ false
+  pub noUpdates : r .updates ≡ []
+  pub noUpdateErrors : r .updateErrors ≡ []
+  pub noLongUpdates : r .longUpdates ≡ []
+
+no-report : Report noRecords
+no-report =
+    record { good = record { values = tt; readErrors = tt; updates = tt; updateErrors = tt; longUpdates = tt }; noNames = refl; noUpdates = refl; noUpdateErrors = refl; noLongUpdates = refl }
+
+report-joined : (r s : Records) → Report r → Report s → Report (joined r s)
+report-joined r s f g =
+    record {
+      good = good-joined r s (f .good) (g .good);
+      noNames = rw (f .noNames, g .noNames);
+      noUpdates = rw (f .noUpdates, g .noUpdates);
+      noUpdateErrors = rw (f .noUpdateErrors, g .noUpdateErrors);
+      noLongUpdates = rw (f .noLongUpdates, g .noLongUpdates);
+    }
+
+report-one : (m : List ℕ) (k : ℕ) → k < entryCount → Report (recordOf (report m k))
+unfolding report recordOf
+report-one m k hk = go (present m k)
+  where
+    go : (b : Bool) → Report (recordOf (cond b (value (rowAt k .name) (body m k)) (readError (rowAt k .name) 0x03)))
+    go true =
+        record {
+          good = good-record (value (rowAt k .name) (body m k)) (name-small k hk, omega (arith, body-length m k, most-small k hk));
+          noNames = refl;
+          noUpdates = refl;
+          noUpdateErrors = refl;
+          noLongUpdates = refl;
+        }
+    go false =
+        record { good = good-record (readError (rowAt k .name) 0x03) (name-small k hk); noNames = refl; noUpdates = refl; noUpdateErrors = refl; noLongUpdates = refl }
+
+reports-are : (m : List ℕ) (k : ℕ) → k ≤ entryCount → Report (gathered (reports m k))
+unfolding reports gathered
+reports-are m zero h = no-report
+reports-are m (suc k) h =
+    rw (gathered-append (reports m k) (cond (pending m k) (report m k ∷ []) []))
+    (report-joined _ _ (reports-are m k (omega arith)) (go (pending m k)))
+  where
+    go : (b : Bool) → Report (gathered (cond b (report m k ∷ []) []))
+    go true = report-joined (recordOf (report m k)) noRecords (report-one m k (omega arith)) no-report
+    go false = no-report
+
+pub notification-read : (m : List ℕ) → decodeNotification (notification m) ≡ gathered (reports m entryCount)
+unfolding decodeNotification notification be16 counted many toEnd
+notification-read m =
+    let r = gathered (reports m entryCount) in
+    let t : Report r = reports-are m entryCount (omega arith) in
+    let a = reads-full r (t .good) in
+    λ i.
+    record {
+      capabilities = sym (t .noNames) i;
+      values = a .0 i;
+      readErrors = a .1 i;
+      updates = sym (t .noUpdates) i;
+      updateErrors = sym (t .noUpdateErrors) i;
+      longUpdates = sym (t .noLongUpdates) i;
+    }

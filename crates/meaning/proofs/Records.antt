@@ -63,7 +63,7 @@ set-length r =
     omega (
       arith,
       length-append (flat shortOctets (r .updates))
-      (length (r .updateErrors) ∷ flat failedOctets (r .updateErrors) ++ longOctets (r .longUpdates)),
+          (length (r .updateErrors) ∷ flat failedOctets (r .updateErrors) ++ longOctets (r .longUpdates)),
       length-append (flat failedOctets (r .updateErrors)) (longOctets (r .longUpdates)),
     )
 
@@ -74,7 +74,7 @@ complete-length r =
     omega (
       arith,
       length-append (element 0x70 (r .capabilities) allNames)
-      (element 0x71 (anyRead r) (readContents r) ++ element 0x72 (anySet r) (setContents r)),
+          (element 0x71 (anyRead r) (readContents r) ++ element 0x72 (anySet r) (setContents r)),
       length-append (element 0x71 (anyRead r) (readContents r)) (element 0x72 (anySet r) (setContents r)),
     )
 

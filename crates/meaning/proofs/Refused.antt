@@ -171,6 +171,6 @@ unfolding build buildChecks
 build-room m room =
     call-room (buildChecks m (length room)) (notification m) (setClock (cleared entryCount m) 1 0) m room
     (λ e.
-        let e1 = first-passed 0 _ _ e in
-        let e11 = first-passed 10 _ _ (e1 .1) in
-        omega (arith, notification-most m (e1 .0), leb-true 1600 (length room) (e11 .0)))
+    let e1 = first-passed 0 _ _ e in
+    let e11 = first-passed 10 _ _ (e1 .1) in
+    omega (arith, notification-most m (e1 .0), leb-true 1600 (length room) (e11 .0)))

@@ -142,8 +142,8 @@ module _ (m : List ℕ) (k : ℕ) (hm : length m ≡ memoryLength) (hk : k < ent
         tail =
             blank-of (drop n (room m k))
             (λ i h.
-                let l : n + i < rowAt k .most = omega (arith, length-drop n (room m k)) in
-                tail-octet m k n i l ∙ e .tail (n + i) (omega arith) l);
+            let l : n + i < rowAt k .most = omega (arith, length-drop n (room m k)) in
+            tail-octet m k n i l ∙ e .tail (n + i) (omega arith) l);
       }
 
 -- ---- the clock

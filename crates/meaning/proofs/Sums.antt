@@ -27,7 +27,7 @@ sums-plain a b [] = (omega arith, omega arith)
 sums-plain a b (x ∷ s) =
     let p : (a % 65536 + x) % 65536 ≡ (a + x) % 65536 = mod-add-mod a 65536 x in
     let q : (b % 65536 + (a % 65536 + x) % 65536) % 65536 ≡ (b + (a + x)) % 65536 =
-        ap (λ (n : ℕ). (b % 65536 + n) % 65536) p ∙ sym (add-mod b (a + x) 65536) in
+    ap (λ (n : ℕ). (b % 65536 + n) % 65536) p ∙ sym (add-mod b (a + x) 65536) in
     let e : sumsFrom (a % 65536) (b % 65536) (x ∷ s) ≡ sumsFrom ((a + x) % 65536) ((b + (a + x)) % 65536) s = ap₂ (λ (i j : ℕ). sumsFrom i j s) p q in
     let ih = sums-plain (a + x) (b + (a + x)) s in
     let c : a + x + total s ≡ a + (x + total s) = add-assoc a x (total s) in
@@ -76,7 +76,7 @@ pub one-octet-seen : (p q : List ℕ) (x y : ℕ) → x < 256 → y < 256 → su
 unfolding total
 one-octet-seen p q x y hx hy e =
     let h : total (p ++ (x ∷ q)) % 65536 ≡ total (p ++ (y ∷ q)) % 65536 =
-        sym (first-shown (p ++ (x ∷ q))) ∙ ap (λ (s : List ℕ). at16 s 0) e ∙ first-shown (p ++ (y ∷ q)) in
+    sym (first-shown (p ++ (x ∷ q))) ∙ ap (λ (s : List ℕ). at16 s 0) e ∙ first-shown (p ++ (y ∷ q)) in
     omega (arith, total-append p (x ∷ q), total-append p (y ∷ q))
 
 -- nor do two that differ by two neighbours exchanged
@@ -85,7 +85,7 @@ unfolding totals
 exchange-seen p q x y hx hy e =
     let a : ℕ = 0 + total p in
     let h : totals 0 (p ++ (x ∷ y ∷ q)) % 65536 ≡ totals 0 (p ++ (y ∷ x ∷ q)) % 65536 =
-        sym (second-shown (p ++ (x ∷ y ∷ q))) ∙ ap (λ (s : List ℕ). at16 s 2) e ∙ second-shown (p ++ (y ∷ x ∷ q)) in
+    sym (second-shown (p ++ (x ∷ y ∷ q))) ∙ ap (λ (s : List ℕ). at16 s 2) e ∙ second-shown (p ++ (y ∷ x ∷ q)) in
     let c : a + x + y ≡ a + y + x = omega arith in
     let d : totals (a + x + y) q ≡ totals (a + y + x) q = ap (λ (n : ℕ). totals n q) c in
     omega (arith, totals-append 0 p (x ∷ y ∷ q), totals-append 0 p (y ∷ x ∷ q))
