@@ -1,20 +1,20 @@
 -- A command that is carried out: what number 0 says of it, and what the call then gives.
-use Prim.Native.Nat.{ℕ, zero, suc, _+_, _*_, _≤_, _<_}
+use Prim.Native.Nat.{ℕ, zero, suc, _+_, _≤_}
 use native.Mathlib.Omega.{arith}
 use mathlib.Core.Path.{_≡_, refl, sym, ap, _∙_}
-use mathlib.Core.Bool.{Bool, true, false, _||_, cond, false≢true}
+use mathlib.Core.Bool.{true, false, _||_, false≢true}
 use mathlib.Core.Option.{Option, none, some}
-use mathlib.Core.List.{List, [], _∷_, _++_}
+use mathlib.Core.List.{List}
 use lib.ListN.{length, drop, length-append, length-drop}
-use lib.Dec.{eqb, leb}
+use lib.Dec.{leb}
 use borrow.Author.Tests.{leb-true, le-leb, eqb-true}
 use Rattle.meaning.specs.Octets.{octet, every, implies}
-use Rattle.meaning.specs.Checks.{Checks, passed, check, firstFailed, settle}
+use Rattle.meaning.specs.Checks.{passed, firstFailed, settle}
 use Rattle.meaning.specs.Memory.{waiting, sound}
 use Rattle.meaning.specs.Operation.{Op, parse, isSome, orNone}
 use Rattle.meaning.specs.Step.{after}
 use Rattle.meaning.specs.Reply.{complete}
-use Rattle.meaning.specs.Calls.{Outcome, done, told, call, isCommand, isAcknowledgement, lengthField, operations, opsOf, lengthRight, records, carriedOut, acknowledged, deed, fits, messageChecks, message}
+use Rattle.meaning.specs.Calls.{done, told, call, isCommand, isAcknowledgement, lengthField, operations, opsOf, lengthRight, records, carriedOut, deed, fits, messageChecks, message}
 use Rattle.meaning.proofs.Tests.{every-at, implies-of, implied, first-passed, first-pass, all-passed}
 use Rattle.meaning.proofs.Records.{Fits, fits-opened, fits-closed}
 

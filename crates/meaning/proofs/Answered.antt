@@ -1,20 +1,20 @@
 -- Law 3: every read and every set is answered exactly once, as value or cause, in list order, and with what document 01 gives.
 use Prim.Native.Nat.{ℕ, zero, suc, _+_, _≤_, _<_}
 use native.Mathlib.Omega.{arith}
-use mathlib.Core.Path.{_≡_, refl, sym, ap, _∙_}
+use mathlib.Core.Path.{_≡_, refl}
 use mathlib.Core.Bool.{Bool, true, false, cond}
 use mathlib.Core.List.{List, [], _∷_, _++_}
-use lib.ListN.{length, take, drop, length-take}
+use lib.ListN.{length, length-take}
 use lib.Dec.{eqb, leb}
 use borrow.Author.Tests.{leb-true, leb-false}
 use Rattle.meaning.specs.Octets.{part, be16}
-use Rattle.meaning.specs.Checks.{Checks, passed, check, firstFailed, settle}
+use Rattle.meaning.specs.Checks.{passed, check, firstFailed, settle}
 use Rattle.meaning.specs.Table.{rowAt, place, listed, byController, entryCount, commit}
 use Rattle.meaning.specs.Block.{sums}
 use Rattle.meaning.specs.Memory.{present, body, room, store}
 use Rattle.meaning.specs.Operation.{Op, capabilities, read, set, subscribe, unsubscribe}
 use Rattle.meaning.specs.Step.{Answer, names, value, readError, update, updateError, silent, shown, readChecks, readAnswer, permitted, setChecks, setAnswer, stored, setMemory, subscribeMemory, unsubscribeMemory, step, answer, answers}
-use Rattle.meaning.specs.Reply.{Held, Failed, Records, kinds, noRecords, joined, held, failed, recordOf, gathered}
+use Rattle.meaning.specs.Reply.{Records, kinds, noRecords, joined, held, failed, recordOf, gathered}
 use Rattle.meaning.specs.Calls.{records}
 use Rattle.meaning.proofs.Lists.{Each, each-append}
 use Rattle.meaning.proofs.Tests.{first-passed}

@@ -1,21 +1,22 @@
 -- A commit's conditions spelt out: on sound memory the test of a set of 8001 passes exactly if each of them holds.
-use Prim.Native.Nat.{ℕ, zero, suc, _+_, _-_, _*_, _/_, _%_, _≤_, _<_}
+use Prim.Native.Nat.{ℕ, _+_, _-_, _*_, _/_, _%_, _≤_, _<_}
 use native.Mathlib.Omega.{arith}
 use mathlib.Core.Path.{_≡_, refl, sym, ap, _∙_}
-use mathlib.Core.Bool.{Bool, true, false, cond, _&&_}
+use mathlib.Core.Bool.{true}
 use mathlib.Core.List.{List, [], _∷_, _++_, append-assoc}
-use lib.ListN.{length, take, drop, length-append}
+use lib.ListN.{length, take, length-append}
 use lib.Seq.{take-at, drop-at, take-length}
-use lib.Dec.{eqb, leb, ltb}
+use lib.Dec.{eqb, leb}
 use borrow.Author.Tests.{leb-true, ltb-true, eqb-true, le-leb, lt-ltb, eq-eqb}
 use Rattle.meaning.specs.Octets.{octet, at32, be16, part, every, same}
-use Rattle.meaning.specs.Table.{Row, rowAt, rows, adminBaseTime, adminControlListLength, adminControlList, adminCycleTime, entryCount}
-use Rattle.meaning.specs.Block.{number, timeOk, entriesOf, interval, entryOk, eachOk, listOk, intervals, ratioOk, cycle, sumsOf, sums, joinedBlock, baseOf, countOf, listOf, ratioOf, formAndFit, permits}
-use Rattle.meaning.specs.Memory.{cell, room, size, isPresent, present, body, fourPresent}
+use Rattle.meaning.specs.Table.{rowAt, rows, adminBaseTime, adminControlListLength, adminControlList, adminCycleTime, entryCount}
+use Rattle.meaning.specs.Block.{number, timeOk, entriesOf, interval, entryOk, eachOk, listOk, intervals, ratioOk, cycle, sums, joinedBlock, baseOf, countOf, listOf, ratioOf, formAndFit, permits}
+use Rattle.meaning.specs.Memory.{present, body, fourPresent}
 use Rattle.meaning.specs.Step.{block, commits}
 use Rattle.meaning.proofs.Lists.{Each}
 use Rattle.meaning.proofs.Tests.{and-left, and-right, and-both, every-at, same-true, same-refl}
 use Rattle.meaning.proofs.Sound.{Sound, entry-of, four-at}
+use Rattle.meaning.proofs.Kept.{permits-length}
 use Rattle.meaning.proofs.Sums.{total, totals, first-sum, second-sum}
 
 -- ---- a block's four values
@@ -66,10 +67,6 @@ module _ (b c l r : List ℕ) (hb : length b ≡ 10) (hc : length c ≡ 4) (hr :
   form-joined = rw (base-joined, count-joined, list-joined, ratio-joined, joined-length)
 
 -- ---- the values of sound memory that are present
-
-pub permits-length : (r : Row) (v : List ℕ) → permits r v ≡ true → (r .least ≤ length v) × (length v ≤ r .most)
-unfolding permits
-permits-length r v e = (leb-true _ _ (every-at _ 0 e), leb-true _ _ (every-at _ 1 e))
 
 module _ (m : List ℕ) (S : Sound m) (k : ℕ) (hk : k < entryCount) (p : present m k ≡ true) where
   pub body-permitted : permits (rowAt k) (body m k) ≡ true

@@ -1,12 +1,12 @@
 -- Law 5, the cut law: a command that is carried out may be cut into any number of non-empty commands sent in order. Each is
 -- carried out, the final memory is the same to the octet, and the records of each kind are those of the partial replies joined.
-use Prim.Native.Nat.{ℕ, zero, suc, _+_, _*_, _≤_, _<_}
+use Prim.Native.Nat.{ℕ, _+_, _≤_, _<_}
 use native.Mathlib.Omega.{arith}
 use mathlib.Core.Path.{_≡_, refl, sym, ap, ap₂, _∙_, subst}
-use mathlib.Core.Bool.{Bool, true, false}
-use mathlib.Core.Option.{Option, none, some}
+use mathlib.Core.Bool.{true}
+use mathlib.Core.Option.{some}
 use mathlib.Core.List.{List, [], _∷_, _++_}
-use lib.ListN.{length, take, drop, length-append, length-drop, length-take}
+use lib.ListN.{length, length-append, length-take}
 use lib.Seq.{take-length}
 use Rattle.meaning.specs.Octets.{at16, be16, part, flat}
 use Rattle.meaning.specs.Memory.{sound}
@@ -14,11 +14,11 @@ use Rattle.meaning.specs.Operation.{Op, parse, isSome, orNone}
 use Rattle.meaning.specs.Step.{after, answers}
 use Rattle.meaning.specs.Reply.{Records, noRecords, joined, gathered, complete}
 use Rattle.meaning.specs.Calls.{Outcome, done, isCommand, lengthField, operations, opsOf, records, message}
-use Rattle.meaning.proofs.Lists.{Each, Octets, each-append, each-left, each-right, octets-part, at16-be16, flat-append}
+use Rattle.meaning.proofs.Lists.{Each, Octets, each-append, each-left, each-right, octets-part, flat-append}
 use Rattle.meaning.proofs.Kept.{after-sound}
 use Rattle.meaning.proofs.Encode.{encode, encode-some, Fine, parse-encoded, parse-spelt, parse-nil}
 use Rattle.meaning.proofs.Records.{Fits, fits-left, fits-right, after-append, records-append}
-use Rattle.meaning.proofs.Decode.{decode, decode-complete, Good}
+use Rattle.meaning.proofs.Decode.{decode, decode-complete}
 use Rattle.meaning.proofs.Answered.{Answered, answered, records-good}
 use Rattle.meaning.proofs.Accepted.{Accepted, some-of, ops-parsed, accepted-call, carried-accepted, done-room}
 

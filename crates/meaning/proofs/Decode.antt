@@ -1,15 +1,15 @@
 -- A reader of replies, and law 6: it is a left inverse of the encoder, so a reply's octets determine its records.
-use Prim.Native.Nat.{ℕ, zero, suc, _+_, _≤_, _<_}
+use Prim.Native.Nat.{ℕ, zero, suc, _≤_, _<_}
 use native.Mathlib.Omega.{arith}
 use mathlib.Core.Path.{_≡_, refl, sym, ap, _∙_}
 use mathlib.Core.Bool.{Bool, true, false, _||_, cond, false≢true}
 use mathlib.Core.List.{List, [], _∷_, _++_, append-assoc, append-nil}
 use lib.ListN.{length, take, drop, length-append}
 use lib.Seq.{take-at, drop-at}
-use lib.Dec.{eqb, leb}
+use lib.Dec.{eqb}
 use Rattle.meaning.specs.Octets.{octet, at16, be16, flat, nonempty}
-use Rattle.meaning.specs.Reply.{Held, Failed, Records, noRecords, joined, heldOctets, shortOctets, failedOctets, readContents, longOctets, setContents, allNames, element, anyRead, anySet, complete}
-use Rattle.meaning.proofs.Lists.{Each, each-append, at16-be16}
+use Rattle.meaning.specs.Reply.{Held, Failed, Records, heldOctets, shortOctets, failedOctets, readContents, longOctets, setContents, allNames, element, anyRead, anySet, complete}
+use Rattle.meaning.proofs.Lists.{Each, at16-be16, at16-second}
 use Rattle.meaning.proofs.Records.{set-length, complete-length}
 
 -- a record and the octets after it
@@ -74,17 +74,13 @@ GoodFailed f = f .name < 65536
 abbrev Back : {A : Type 0} → (A → List ℕ) → (List ℕ → A × List ℕ) → (A → Type 0) → Type 0
 Back {A} f one Good = (a : A) (t : List ℕ) → Good a → one (f a ++ t) ≡ (a, t)
 
-at16-later : (n k : ℕ) (t : List ℕ) → k < 65536 → at16 (be16 n ++ (be16 k ++ t)) 2 ≡ k
-unfolding at16 be16
-at16-later n k t h = omega arith
-
 held-back : Back heldOctets readHeld GoodHeld
 unfolding readHeld heldOctets
 held-back r t g =
     let v = r .value in
     let s : be16 (r .name) ++ (be16 (length v) ++ v) ++ t ≡ be16 (r .name) ++ (be16 (length v) ++ (v ++ t)) = simp append-assoc in
     let d : drop 4 (be16 (r .name) ++ (be16 (length v) ++ (v ++ t))) ≡ v ++ t = unfold be16 in refl in
-    rw (s, at16-be16 (r .name) (be16 (length v) ++ (v ++ t)) (g .0), at16-later (r .name) (length v) (v ++ t) (g .1), d, take-at v t (length v) refl, drop-at v t (length v) refl)
+    rw (s, at16-be16 (r .name) (be16 (length v) ++ (v ++ t)) (g .0), at16-second (r .name) (length v) (v ++ t) (g .1), d, take-at v t (length v) refl, drop-at v t (length v) refl)
 
 short-back : Back shortOctets readShort GoodHeld
 unfolding readShort shortOctets be16

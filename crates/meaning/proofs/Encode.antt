@@ -1,17 +1,17 @@
 -- The octets that spell an operation, and that parsing is their inverse: what is parsed was spelt so, and what is spelt is parsed.
-use Prim.Native.Nat.{ℕ, zero, suc, _+_, _-_, _*_, _/_, _%_, _≤_, _<_}
+use Prim.Native.Nat.{ℕ, zero, suc, _+_, _*_, _/_, _%_, _≤_, _<_}
 use native.Mathlib.Omega.{arith}
 use mathlib.Core.Path.{_≡_, refl, sym, ap, _∙_, subst}
 use mathlib.Core.Bool.{Bool, true, false, cond}
 use mathlib.Core.Option.{Option, none, some}
-use mathlib.Core.List.{List, [], _∷_, _++_, append-assoc}
-use lib.ListN.{length, take, drop, getD, length-append, take-append-drop, length-drop}
+use mathlib.Core.List.{List, [], _∷_, _++_}
+use lib.ListN.{length, take, drop, length-append, take-append-drop, length-drop}
 use lib.Seq.{take-at, drop-at, length-take-le, drop-drop}
 use lib.Dec.{eqb, leb}
 use borrow.Author.Tests.{leb-true, le-leb, eqb-true}
-use Rattle.meaning.specs.Octets.{octet, at16, be16, part, flat}
+use Rattle.meaning.specs.Octets.{at16, be16, part, flat}
 use Rattle.meaning.specs.Operation.{Op, capabilities, read, set, subscribe, unsubscribe, Shape, alone, named, valued, malformed, shape, Next, bad, got, whole, shaped, more, follow, parseIn, parse}
-use Rattle.meaning.proofs.Lists.{Each, Octets, each-take, each-drop, at16-be16, be16-at16, flat-append}
+use Rattle.meaning.proofs.Lists.{Each, Octets, each-drop, at16-be16, at16-second, be16-at16}
 
 unfoldable pub encode : Op → List ℕ
 encode capabilities = 1 ∷ []
@@ -51,10 +51,6 @@ unfolding shaped be16
 named-first f n r h =
     whole-there 2 (n / 256 % 256 ∷ n % 256 ∷ r) (f (at16 (n / 256 % 256 ∷ n % 256 ∷ r) 0)) (omega arith)
     ∙ ap (λ (k : ℕ). got (f k) r) (unfold be16 in at16-be16 n r h)
-
-at16-second : (n k : ℕ) (t : List ℕ) → k < 65536 → at16 (be16 n ++ (be16 k ++ t)) 2 ≡ k
-unfolding at16 be16
-at16-second n k t h = omega arith
 
 part-fourth : (n k : ℕ) (v r : List ℕ) → part (be16 n ++ (be16 k ++ (v ++ r))) 4 (length v) ≡ v
 unfolding part be16

@@ -1,16 +1,15 @@
 -- Octets after a command's operations, and after an acknowledgement's 04, are ignored.
-use Prim.Native.Nat.{ℕ, zero, suc, _+_, _*_, _≤_, _<_}
+use Prim.Native.Nat.{ℕ, suc, _+_, _≤_, _<_}
 use native.Mathlib.Omega.{arith}
-use mathlib.Core.Path.{_≡_, refl, sym, ap, _∙_}
-use mathlib.Core.Bool.{Bool, true, false, _||_, cond}
+use mathlib.Core.Path.{_≡_, sym, ap, _∙_}
+use mathlib.Core.Bool.{true}
 use mathlib.Core.List.{List, [], _∷_, _++_}
 use lib.ListN.{length, length-append, List·getD-append}
-use lib.Dec.{eqb, leb}
+use lib.Dec.{eqb}
 use borrow.Author.Tests.{le-leb}
-use Rattle.meaning.specs.Octets.{octet, at16, part, implies}
-use Rattle.meaning.specs.Checks.{check, passed, firstFailed}
+use Rattle.meaning.specs.Octets.{octet, at16, implies}
 use Rattle.meaning.specs.Operation.{Op, parse}
-use Rattle.meaning.specs.Calls.{Outcome, isCommand, isAcknowledgement, lengthField, operations, opsOf, deed, messageChecks, message}
+use Rattle.meaning.specs.Calls.{isCommand, isAcknowledgement, lengthField, operations, opsOf, deed, messageChecks, message}
 use Rattle.meaning.proofs.Lists.{part-append}
 use Rattle.meaning.proofs.Accepted.{Accepted, carried-accepted, accepted-call}
 

@@ -3,23 +3,23 @@ use Prim.Native.Nat.{ℕ, zero, suc, _+_, _-_, _/_, _%_, _≤_, _<_}
 use native.Mathlib.Omega.{arith}
 use native.Mathlib.Decide.{ℕ-discrete}
 use mathlib.Core.Path.{_≡_, refl, sym, ap, _∙_}
-use mathlib.Core.Logic.{_⊎_, inl, inr}
+use mathlib.Core.Logic.{inl, inr}
 use mathlib.Core.Bool.{Bool, true, false, _&&_, _||_, not, cond, false≢true}
-use mathlib.Core.List.{List, [], _∷_, _++_}
+use mathlib.Core.List.{List, [], _∷_}
 use lib.ListN.{length}
-use lib.Dec.{eqb, leb, ltb}
+use lib.Dec.{eqb, ltb}
 use borrow.Author.Tests.{leb-true, ltb-true, eqb-true, eq-eqb, ne-eqb, le-leb}
-use Rattle.meaning.specs.Octets.{every, implies, nonempty, part, be16}
-use Rattle.meaning.specs.Checks.{Checks, passed, check, firstFailed, settle}
+use Rattle.meaning.specs.Octets.{every, implies, nonempty, part}
+use Rattle.meaning.specs.Checks.{Checks, firstFailed, settle}
 use Rattle.meaning.specs.Table.{Row, rowAt, rows, byPort, byController, place, listed, entryCount, memoryLength, commit}
 use Rattle.meaning.specs.Block.{permits, keeps, formAndFit, listOf, listOk, countOf, number}
-use Rattle.meaning.specs.Memory.{cell, flags, put, store, remark, setClock, present, subscribed, pending, isPending, isSubscribed, waiting, expiries, fourPresent, clockSound, sound, fresh}
+use Rattle.meaning.specs.Memory.{cell, store, remark, setClock, subscribed, pending, isPending, isSubscribed, expiries, fourPresent, clockSound, sound, fresh}
 use Rattle.meaning.specs.Operation.{Op, capabilities, read, set, subscribe, unsubscribe}
 use Rattle.meaning.specs.Step.{block, commits, permitted, setChecks, stored, setMemory, subscribeMemory, unsubscribeMemory, step, after}
-use Rattle.meaning.specs.Calls.{Outcome, done, told, call, Deed, deed, carriedOut, acknowledged, isCommand, messageChecks, message, opsOf, localPermitted, differs, localMemory, localChecks, localValue, cleared, buildChecks, build, notification, expired, expiryChecks, expiry, makeFresh}
+use Rattle.meaning.specs.Calls.{Outcome, told, call, deed, carriedOut, acknowledged, isCommand, messageChecks, message, opsOf, localPermitted, differs, localMemory, localChecks, localValue, cleared, buildChecks, build, expired, expiryChecks, expiry, makeFresh}
 use Rattle.meaning.proofs.All.{all}
 use Rattle.meaning.proofs.Lists.{length-part}
-use Rattle.meaning.proofs.Tests.{and-left, and-right, every-at, first-passed, implied}
+use Rattle.meaning.proofs.Tests.{and-left, every-at, first-passed}
 use Rattle.meaning.proofs.Places.{listed-place}
 use Rattle.meaning.proofs.Sound.{Sound, opened, entry-of, put-sound, remark-sound, setClock-sound}
 
@@ -29,9 +29,12 @@ fresh-sound = refl
 
 -- ---- a set
 
-pub permits-most : (r : Row) (v : List ℕ) → permits r v ≡ true → length v ≤ r .most
+pub permits-length : (r : Row) (v : List ℕ) → permits r v ≡ true → (r .least ≤ length v) × (length v ≤ r .most)
 unfolding permits
-permits-most r v e = leb-true _ _ (every-at _ 1 e)
+permits-length r v e = (leb-true _ _ (every-at _ 0 e), leb-true _ _ (every-at _ 1 e))
+
+pub permits-most : (r : Row) (v : List ℕ) → permits r v ≡ true → length v ≤ r .most
+permits-most r v e = permits-length r v e .1
 
 -- the tests of form and fit, by their place in the definition
 pub block-length : (b : List ℕ) → formAndFit b ≡ true → (29 ≤ length b) × (length b ≤ 470)

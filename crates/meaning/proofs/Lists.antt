@@ -3,9 +3,9 @@ use Prim.Native.Nat.{ℕ, zero, suc, _+_, _-_, _*_, _/_, _%_, _≤_, _<_}
 use native.Mathlib.Nat.{add-sub-of-le}
 use native.Mathlib.Omega.{arith}
 use mathlib.Core.Path.{_≡_, refl, sym, ap, _∙_}
-use mathlib.Core.Bool.{Bool, true, false, false≢true}
+use mathlib.Core.Bool.{true, false≢true}
 use mathlib.Core.List.{List, [], _∷_, _++_, append-assoc}
-use lib.ListN.{length, getD, take, drop, length-append, length-drop, take-append-drop}
+use lib.ListN.{length, take, drop, length-append, length-drop, take-append-drop}
 use lib.Seq.{drop-at, take-append-le, drop-append-le, take-append-seam, drop-drop, length-take-le, getD-take, getD-drop}
 use Rattle.meaning.specs.Octets.{octet, at16, be16, part, splice, flat, nonempty}
 
@@ -49,6 +49,10 @@ octets-part s i n o = each-take (λ x. x < 256) n (drop i s) (each-drop (λ x. x
 pub at16-be16 : (n : ℕ) (t : List ℕ) → n < 65536 → at16 (be16 n ++ t) 0 ≡ n
 unfolding at16 be16
 at16-be16 n t h = omega arith
+
+pub at16-second : (n k : ℕ) (t : List ℕ) → k < 65536 → at16 (be16 n ++ (be16 k ++ t)) 2 ≡ k
+unfolding at16 be16
+at16-second n k t h = omega arith
 
 pub be16-at16 : (h l : ℕ) → h < 256 → l < 256 → be16 (h * 256 + l) ≡ h ∷ l ∷ []
 unfolding be16

@@ -1,26 +1,25 @@
 -- What the subscribed and pending marks do: a set never marks anything pending, subscribe and unsubscribe, a local value.
-use Prim.Native.Nat.{ℕ, zero, suc, _+_, _≤_, _<_}
+use Prim.Native.Nat.{ℕ, zero, suc, _≤_, _<_}
 use native.Mathlib.Omega.{arith}
 use native.Mathlib.Decide.{ℕ-discrete}
 use mathlib.Core.Path.{_≡_, refl, sym, ap, _∙_}
 use mathlib.Core.Logic.{_≢_, _↔_}
-use mathlib.Core.Bool.{Bool, true, false, _&&_, _||_, not, cond, false≢true}
+use mathlib.Core.Bool.{Bool, true, false, _&&_, _||_, not}
 use mathlib.Core.List.{List, [], _∷_}
 use lib.ListN.{length}
-use lib.Dec.{eqb, leb}
-use borrow.Author.Tests.{leb-true, eqb-true}
+use lib.Dec.{leb}
+use borrow.Author.Tests.{leb-true, eqb-true, not-false}
 use Rattle.meaning.specs.Octets.{same, nonempty, below, implies}
 use Rattle.meaning.specs.Checks.{firstFailed, settle}
 use Rattle.meaning.specs.Table.{rowAt, rows, place, listed, byPort, entryCount}
-use Rattle.meaning.specs.Block.{permits}
-use Rattle.meaning.specs.Memory.{cell, room, size, body, flags, put, store, remark, isSubscribed, isPending, isPresent, present, subscribed, pending, sound}
+use Rattle.meaning.specs.Memory.{cell, size, body, flags, put, store, remark, present, subscribed, pending, sound}
 use Rattle.meaning.specs.Step.{stored, setChecks, setMemory, subscribeMemory, unsubscribeMemory}
 use Rattle.meaning.specs.Calls.{differs, localMemory}
-use Rattle.meaning.proofs.Tests.{same-true, same-refl, every-at, implied, implies-of, below-at}
+use Rattle.meaning.proofs.Tests.{same-true, same-refl, implied, below-at}
 use Rattle.meaning.proofs.Places.{listed-place, cell-put-same, cell-put-other}
 use Rattle.meaning.proofs.Sound.{Sound, opened, entry-of, subscribed-cellOf, pending-cellOf, cell-remark-same, cell-remark-other}
-use Rattle.meaning.proofs.Kept.{permits-most, stored-permitted, settable, Local, local-held}
-use Rattle.meaning.proofs.Commit.{body-permitted, permits-length}
+use Rattle.meaning.proofs.Kept.{permits-length, permits-most, stored-permitted, settable, Local, local-held}
+use Rattle.meaning.proofs.Commit.{body-permitted}
 
 -- the marks of the entry at place j
 pub record Marked (m : List ℕ) (j : ℕ) (s q : Bool) : Type 0 where
@@ -153,10 +152,6 @@ pub differs-not : (m : List ℕ) (k : ℕ) (v : List ℕ) → Sound m → k < en
 unfolding differs
 differs-not m k v S hk o = (to, from)
   where
-    not-false : (b : Bool) → not b ≡ false → b ≡ true
-    not-false true h = refl
-    not-false false h = absurd (false≢true (sym h))
-
     to : not (same (body m k) v) ≡ false → (body m k ≡ v) × (present m k ≡ nonempty v)
     to d =
         let e = same-true (body m k) v (not-false (same (body m k) v) d) in

@@ -2,14 +2,14 @@
 use Prim.Native.Nat.{ℕ, zero, suc, _+_, _≤_, _<_}
 use native.Mathlib.Omega.{arith}
 use mathlib.Core.Path.{_≡_, refl, sym, ap, _∙_}
-use mathlib.Core.Bool.{Bool, true, false, _&&_, cond}
+use mathlib.Core.Bool.{Bool, true, false, cond}
 use mathlib.Core.List.{List, [], _∷_, _++_}
 use lib.ListN.{length, drop, length-append}
 use Rattle.meaning.specs.Octets.{be16, flat}
 use Rattle.meaning.specs.Table.{rowAt, rows, byPort, entryCount}
 use Rattle.meaning.specs.Memory.{cell, present, pending, body, isPending, isSubscribed, sound}
-use Rattle.meaning.specs.Step.{Answer, value, readError}
-use Rattle.meaning.specs.Reply.{Records, noRecords, joined, recordOf, gathered, heldOctets, failedOctets, readContents}
+use Rattle.meaning.specs.Step.{value, readError}
+use Rattle.meaning.specs.Reply.{Records, noRecords, joined, recordOf, gathered, heldOctets, failedOctets}
 use Rattle.meaning.specs.Calls.{report, reports, notification}
 use Rattle.meaning.proofs.Lists.{flat-length}
 use Rattle.meaning.proofs.Tests.{and-right, implied}

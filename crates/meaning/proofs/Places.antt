@@ -1,19 +1,19 @@
 -- What a change of an entry leaves in each cell and each room. That rooms lie apart is a test that is computed over the table.
-use Prim.Native.Nat.{ℕ, zero, suc, _+_, _-_, _*_, _≤_, _<_}
+use Prim.Native.Nat.{ℕ, suc, _+_, _≤_, _<_}
 use native.Mathlib.Omega.{arith}
-use native.Mathlib.Decide.{decLe, ℕ-discrete}
+use native.Mathlib.Decide.{decLe}
 use mathlib.Core.Path.{_≡_, refl, sym, ap, _∙_}
 use mathlib.Core.Logic.{_≢_, _⊎_, inl, inr}
-use mathlib.Core.Bool.{Bool, true, false, _&&_, _||_}
-use mathlib.Core.List.{List, [], _∷_, _++_}
+use mathlib.Core.Bool.{Bool, true, _&&_, _||_}
+use mathlib.Core.List.{List, [], _∷_}
 use lib.ListN.{length, length-append, length-replicate}
 use lib.Dec.{eqb, leb, ltb}
 use borrow.Author.Tests.{leb-true, ltb-true, eqb-true}
 use Rattle.meaning.specs.Octets.{part, splice, be16, below}
 use Rattle.meaning.specs.Table.{rowAt, rows, rooms, roomAt, entryCount, memoryLength, bodiesAt, clockAt, place, placeIn, listed, gateEnabled, adminBaseTime, adminControlListLength, adminControlList, adminCycleTime, supportedListMax, commit}
-use Rattle.meaning.specs.Memory.{cellAt, cell, room, clock, cellOf, roomOf, putCell, putRoom, put, setClock, entrySound, entriesSound}
+use Rattle.meaning.specs.Memory.{cellAt, cell, room, clock, cellOf, roomOf, putCell, putRoom, put, setClock}
 use Rattle.meaning.proofs.Lists.{splice-length, splice-same, splice-before, splice-after}
-use Rattle.meaning.proofs.Tests.{and-left, and-right, or-cases, below-at, below-all}
+use Rattle.meaning.proofs.Tests.{and-left, and-right, or-cases, below-at}
 
 -- ---- the table's rules
 

@@ -1,19 +1,18 @@
 -- Laws of records: joining, answers gathered, operations one after another, and that a part's reply fits wherever the whole's does.
-use Prim.Native.Nat.{ℕ, zero, suc, _+_, _≤_, _<_, zero-le}
+use Prim.Native.Nat.{ℕ, _+_, _≤_, zero-le}
 use native.Mathlib.Omega.{arith}
-use mathlib.Core.Path.{_≡_, refl, sym, ap, _∙_, subst}
+use mathlib.Core.Path.{_≡_, refl, sym, ap, subst}
 use mathlib.Core.Bool.{Bool, true, false, _||_, cond, or-assoc, or-false, or-true, false≢true}
 use mathlib.Core.List.{List, [], _∷_, _++_, append-assoc, append-nil}
 use lib.ListN.{length, length-append}
-use lib.Dec.{leb}
 use borrow.Author.Tests.{leb-true, le-leb}
 use Rattle.meaning.specs.Octets.{be16, flat, nonempty, every}
 use Rattle.meaning.specs.Operation.{Op}
 use Rattle.meaning.specs.Step.{Answer, step, answer, after, answers}
-use Rattle.meaning.specs.Reply.{Held, Failed, Records, noRecords, joined, recordOf, gathered, heldOctets, shortOctets, failedOctets, readContents, longOctets, setContents, allNames, element, anyRead, anySet, complete, countsFit}
+use Rattle.meaning.specs.Reply.{Held, Records, noRecords, joined, recordOf, gathered, heldOctets, shortOctets, failedOctets, readContents, longOctets, setContents, allNames, element, anyRead, anySet, complete, countsFit}
 use Rattle.meaning.specs.Calls.{records, carriedOut, fits}
-use Rattle.meaning.proofs.Lists.{flat-append, flat-length, flat-within, length-within, nonempty-within}
-use Rattle.meaning.proofs.Tests.{every-at, and-both}
+use Rattle.meaning.proofs.Lists.{flat-within, length-within, nonempty-within}
+use Rattle.meaning.proofs.Tests.{every-at}
 
 -- ---- joining
 

@@ -5,16 +5,16 @@ use native.Mathlib.Omega.{arith}
 use native.Mathlib.Decide.{decLe}
 use mathlib.Core.Path.{_≡_, refl, sym, ap, _∙_}
 use mathlib.Core.Logic.{_≢_, _⊎_, inl, inr}
-use mathlib.Core.Bool.{Bool, true, false, not, cond}
-use mathlib.Core.List.{List, [], _∷_, _++_}
-use lib.ListN.{length, drop, length-append, length-drop}
-use lib.Dec.{leb, ltb}
+use mathlib.Core.Bool.{Bool, true, false, cond}
+use mathlib.Core.List.{List, [], _++_}
+use lib.ListN.{length, drop}
+use lib.Dec.{ltb}
 use borrow.Author.Tests.{leb-true}
-use Rattle.meaning.specs.Octets.{octet, part}
+use Rattle.meaning.specs.Octets.{octet}
 use Rattle.meaning.specs.Checks.{Checks, passed, check, firstFailed, settle}
-use Rattle.meaning.specs.Table.{place, entryCount, clockAt, memoryLength}
-use Rattle.meaning.specs.Memory.{setClock, expiries, sound, fresh}
-use Rattle.meaning.specs.Calls.{Outcome, done, told, call, deed, fits, messageChecks, message, localMemory, localChecks, localValue, notification, cleared, buildChecks, build, expired, expiryChecks, expiry, makeFresh}
+use Rattle.meaning.specs.Table.{entryCount, clockAt, memoryLength}
+use Rattle.meaning.specs.Memory.{setClock, expiries, sound}
+use Rattle.meaning.specs.Calls.{Outcome, done, told, call, deed, fits, messageChecks, message, localChecks, localValue, notification, cleared, buildChecks, build, expired, expiryChecks, expiry, makeFresh}
 use Rattle.meaning.proofs.Lists.{octet-part}
 use Rattle.meaning.proofs.Tests.{every-at, first-passed}
 use Rattle.meaning.proofs.Places.{setClock-length, part-setClock}

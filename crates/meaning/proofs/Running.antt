@@ -3,25 +3,25 @@
 use Prim.Native.Nat.{ℕ, zero, suc, _+_, _≤_, _<_}
 use native.Mathlib.Omega.{arith}
 use native.Mathlib.Decide.{ℕ-discrete}
-use mathlib.Core.Path.{_≡_, refl, sym, ap, _∙_, subst}
+use mathlib.Core.Path.{_≡_, refl, sym, ap, _∙_}
 use mathlib.Core.Logic.{_≢_, _⊎_, inl, inr}
 use mathlib.Core.Bool.{Bool, true, false, _&&_, _||_, cond, false≢true}
 use mathlib.Core.List.{List, [], _∷_, _++_}
 use lib.ListN.{length, getD}
 use lib.Dec.{eqb, ltb}
-use borrow.Author.Tests.{eqb-true, eq-eqb, ne-eqb}
+use borrow.Author.Tests.{eqb-true, eq-eqb}
 use Rattle.meaning.specs.Octets.{nonempty}
-use Rattle.meaning.specs.Checks.{Checks, firstFailed, settle, check, passed}
-use Rattle.meaning.specs.Table.{Row, Owner, controller, port, nobody, row, rowAt, rows, placeIn, place, listed, byController, byPort, free, entryCount, memoryLength, commit}
+use Rattle.meaning.specs.Checks.{firstFailed, settle, passed}
+use Rattle.meaning.specs.Table.{Row, nobody, row, rowAt, rows, placeIn, place, listed, byController, byPort, free, entryCount, commit}
 use Rattle.meaning.specs.Block.{permits}
-use Rattle.meaning.specs.Memory.{cell, present, subscribed, pending, body, flags, put, store, remark, setClock, sound, expiries}
+use Rattle.meaning.specs.Memory.{present, subscribed, pending, body, store, remark, setClock, sound, expiries}
 use Rattle.meaning.specs.Operation.{Op, capabilities, read, set, subscribe, unsubscribe}
 use Rattle.meaning.specs.Step.{block, commits, permitted, setChecks, stored, setMemory, setAnswer, subscribeMemory, unsubscribeMemory, step, answer, update, after}
-use Rattle.meaning.specs.Calls.{Outcome, told, call, isCommand, carriedOut, acknowledged, deed, opsOf, messageChecks, message, differs, localMemory, localChecks, localValue, cleared, buildChecks, build, expired, expiryChecks, expiry}
+use Rattle.meaning.specs.Calls.{told, isCommand, carriedOut, acknowledged, deed, opsOf, messageChecks, message, differs, localMemory, localChecks, localValue, cleared, buildChecks, build, expired, expiryChecks, expiry}
 use Rattle.meaning.proofs.Tests.{first-passed, first-pass, all-passed}
 use Rattle.meaning.proofs.Places.{listed-place}
 use Rattle.meaning.proofs.Sound.{Sound, opened, put-present-same, put-present-other, put-body-same, put-body-other, present-remark, body-remark, present-setClock, body-setClock}
-use Rattle.meaning.proofs.Kept.{permits-most, stored-permitted, Settable, settable, step-sound, after-sound, call-memory, cleared-sound, Local, local-opened, local-held, commit-not-port}
+use Rattle.meaning.proofs.Kept.{permits-most, stored-permitted, Settable, settable, step-sound, call-memory, cleared-sound, Local, local-opened, local-held, commit-not-port}
 use Rattle.meaning.proofs.Commit.{Commits, commits-spelt, spelt-commits}
 
 -- ---- the statement

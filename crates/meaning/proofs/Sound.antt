@@ -1,19 +1,19 @@
 -- Sound memory taken apart and put together, and the three kinds of change that keep it sound: an entry put, marks, the clock.
-use Prim.Native.Nat.{ℕ, zero, suc, _+_, _-_, _*_, _≤_, _<_}
+use Prim.Native.Nat.{ℕ, _-_, _≤_, _<_}
 use native.Mathlib.Omega.{arith}
 use native.Mathlib.Decide.{ℕ-discrete}
 use mathlib.Core.Path.{_≡_, refl, sym, ap, _∙_}
 use mathlib.Core.Logic.{_≢_, _⊎_, inl, inr}
 use mathlib.Core.Bool.{Bool, true, false, _&&_, cond, false≢true}
-use mathlib.Core.List.{List, [], _∷_, _++_}
+use mathlib.Core.List.{List, [], _∷_}
 use lib.ListN.{length, getD, take, drop}
 use lib.Seq.{take-append-seam, drop-append-seam}
-use lib.Dec.{eqb, leb, ltb}
+use lib.Dec.{eqb, ltb}
 use borrow.Author.Tests.{leb-true, eqb-true, eq-eqb, le-leb}
 use Rattle.meaning.specs.Octets.{octet, at16, be16, blank, every, implies}
 use Rattle.meaning.specs.Table.{Row, rowAt, rows, byPort, entryCount, memoryLength, gateEnabled, adminBaseTime, adminControlListLength, adminControlList, adminCycleTime, supportedListMax, commit}
 use Rattle.meaning.specs.Block.{permits}
-use Rattle.meaning.specs.Memory.{cell, room, body, clock, cellOf, roomOf, putCell, put, remark, setClock, flags, flagLimit, bit, size, isPresent, isSubscribed, isPending, present, subscribed, pending, entrySound, entriesSound, fourPresent, clockSound, sound}
+use Rattle.meaning.specs.Memory.{cell, room, body, clock, cellOf, roomOf, put, remark, setClock, flags, flagLimit, bit, size, isPresent, isSubscribed, isPending, present, entrySound, entriesSound, fourPresent, clockSound, sound}
 use Rattle.meaning.proofs.Lists.{at16-be16}
 use Rattle.meaning.proofs.Tests.{implies-of, implied, every-at, below-at, below-all, blank-zeros}
 use Rattle.meaning.proofs.Places.{name-small, most-small, putCell-length, cell-putCell-same, cell-putCell-other, room-putCell, clock-putCell, put-length, cell-put-same, cell-put-other, room-put-same, room-put-other, clock-put, setClock-length, clock-setClock, cell-setClock, room-setClock}

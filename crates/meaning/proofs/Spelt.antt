@@ -1,23 +1,22 @@
 -- Sound memory in the words of document 01, octet by octet: the test passes exactly if each sentence holds.
-use Prim.Native.Nat.{ℕ, zero, suc, _+_, _-_, _*_, _≤_, _<_}
+use Prim.Native.Nat.{ℕ, suc, _+_, _-_, _*_, _≤_, _<_}
 use native.Mathlib.Omega.{arith}
-use native.Mathlib.Nat.{zero-add}
 use mathlib.Core.Path.{_≡_, refl, sym, ap, _∙_}
 use mathlib.Core.Logic.{_⊎_, inl, inr}
-use mathlib.Core.Bool.{Bool, true, false, _&&_, cond, false≢true, true≢false}
+use mathlib.Core.Bool.{Bool, true, false, _&&_, cond}
 use mathlib.Core.List.{List, [], _∷_}
-use lib.ListN.{length, take, drop, length-drop}
+use lib.ListN.{length, drop, length-drop}
 use lib.Seq.{getD-drop, length-take-le}
-use lib.Dec.{eqb, leb, ltb}
-use borrow.Author.Tests.{leb-true, le-leb, ltb-true, lt-ltb, eqb-true, eqb-false, eq-eqb}
-use Rattle.meaning.specs.Octets.{octet, at16, part, blank, every, implies}
-use Rattle.meaning.specs.Table.{Row, rowAt, roomAt, byPort, entryCount, memoryLength, clockAt, gateEnabled, adminBaseTime, adminControlListLength, adminControlList, adminCycleTime, supportedListMax, commit}
+use lib.Dec.{eqb, leb}
+use borrow.Author.Tests.{leb-true, le-leb, ltb-true, lt-ltb, eqb-true, eq-eqb}
+use Rattle.meaning.specs.Octets.{octet, at16, part, blank, every}
+use Rattle.meaning.specs.Table.{rowAt, roomAt, byPort, entryCount, memoryLength, clockAt, gateEnabled, adminBaseTime, adminControlListLength, adminControlList, adminCycleTime, supportedListMax, commit}
 use Rattle.meaning.specs.Block.{keeps, permits}
 use Rattle.meaning.specs.Memory.{cellAt, cell, room, body, size, clock, isPresent, isSubscribed, isPending, present, subscribed, pending, fourPresent, clockSound, sound}
 use Rattle.meaning.proofs.Lists.{part-octet, length-part}
 use Rattle.meaning.proofs.Tests.{and-left, and-right, and-both, every-at, implied, implies-of, blank-octet}
 use Rattle.meaning.proofs.Places.{room-end}
-use Rattle.meaning.proofs.Sound.{Sound, opened, closed, Entry, entry-of, entry-closed, four-at}
+use Rattle.meaning.proofs.Sound.{opened, closed, Entry, entry-of, entry-closed, four-at}
 
 -- ---- the sentences
 

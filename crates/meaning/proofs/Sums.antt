@@ -1,14 +1,13 @@
 -- Law 7: the wrapping sums are the plain sums modulo 65,536. And what the sums are worth: no single octet changed, and no two
 -- neighbours exchanged, goes unseen.
-use Prim.Native.Nat.{ℕ, zero, suc, _+_, _*_, _%_, _≤_, _<_}
+use Prim.Native.Nat.{ℕ, _+_, _%_, _<_}
 use native.Mathlib.Nat.{add-assoc, add-mod, mod-add-mod}
 use native.Mathlib.Omega.{arith}
-use mathlib.Core.Path.{_≡_, refl, sym, ap, ap₂, _∙_}
-use mathlib.Core.List.{List, [], _∷_, _++_}
-use lib.ListN.{length}
+use mathlib.Core.Path.{_≡_, sym, ap, ap₂, _∙_}
+use mathlib.Core.List.{List, [], _∷_, _++_, append-nil}
 use Rattle.meaning.specs.Octets.{at16, be16}
 use Rattle.meaning.specs.Block.{Sums, sumsFrom, sumsOf, sums}
-use Rattle.meaning.proofs.Lists.{at16-be16}
+use Rattle.meaning.proofs.Lists.{at16-be16, at16-second}
 
 -- the sum of the octets
 unfoldable pub total : List ℕ → ℕ
@@ -49,13 +48,11 @@ unfolding sums
 first-shown s =
     rw (first-sum s) (at16-be16 (total s % 65536) (be16 (sumsOf s .second)) (omega arith))
 
-second-at : (a b : ℕ) → b < 65536 → at16 (be16 a ++ be16 b) 2 ≡ b
-unfolding at16 be16
-second-at a b h = omega arith
-
 pub second-shown : (s : List ℕ) → at16 (sums s) 2 ≡ totals 0 s % 65536
 unfolding sums
-second-shown s = rw (second-sum s) (second-at (sumsOf s .first) (totals 0 s % 65536) (omega arith))
+second-shown s =
+    rw (second-sum s, ← append-nil (be16 (totals 0 s % 65536)))
+    (at16-second (sumsOf s .first) (totals 0 s % 65536) [] (omega arith))
 
 -- ---- what they are worth
 

@@ -3,18 +3,15 @@ use Prim.Native.Nat.{ℕ, zero, suc, _+_, _≤_, _<_}
 use native.Mathlib.Omega.{arith}
 use native.Mathlib.Decide.{ℕ-discrete}
 use mathlib.Core.Path.{_≡_, refl, sym, ap, _∙_}
-use mathlib.Core.Logic.{_≢_}
-use mathlib.Core.Bool.{Bool, true, false, not, cond}
-use mathlib.Core.List.{List, [], _∷_, _++_}
+use mathlib.Core.Bool.{Bool, true, false}
+use mathlib.Core.List.{List, [], _∷_}
 use lib.ListN.{length}
-use lib.Dec.{eqb, leb, ltb}
-use borrow.Author.Tests.{le-leb, lt-ltb, le-ltb, not-true}
-use Rattle.meaning.specs.Octets.{octet, every, implies, nonempty}
-use Rattle.meaning.specs.Checks.{check, passed, firstFailed, settle}
+use borrow.Author.Tests.{le-leb, lt-ltb, le-ltb}
+use Rattle.meaning.specs.Octets.{every, implies, nonempty}
+use Rattle.meaning.specs.Checks.{firstFailed, settle}
 use Rattle.meaning.specs.Table.{entryCount}
-use Rattle.meaning.specs.Memory.{cell, clock, waiting, expiries, setClock, subscribed, pending, sound}
-use Rattle.meaning.specs.Calls.{Outcome, done, told, call, isCommand, isAcknowledgement, deed, acknowledged, fits, messageChecks, message, reports, notification, cleared, buildChecks, build, expired, expiryChecks, expiry}
-use Rattle.meaning.proofs.Tests.{first-passed, first-pass, all-passed}
+use Rattle.meaning.specs.Memory.{clock, waiting, expiries, setClock, subscribed, pending, sound}
+use Rattle.meaning.specs.Calls.{done, told, call, isCommand, isAcknowledgement, deed, acknowledged, fits, messageChecks, message, reports, notification, cleared, buildChecks, build, expired, expiryChecks, expiry}
 use Rattle.meaning.proofs.Places.{clock-setClock, cell-setClock}
 use Rattle.meaning.proofs.Sound.{Sound, opened}
 use Rattle.meaning.proofs.Kept.{cleared-sound}

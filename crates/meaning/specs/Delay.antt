@@ -1,6 +1,6 @@
 -- Whole nanoseconds to delay units, of which 65,536 make a nanosecond, and a delay's 8 octets with the LOW octet first.
 use Prim.Native.Nat.{ℕ, zero, suc, _-_, _*_, _/_, _%_, _^_}
-use mathlib.Core.Bool.{Bool, true, false, cond}
+use mathlib.Core.Bool.{cond}
 use mathlib.Core.List.{List, [], _∷_}
 use lib.Dec.{ltb}
 

@@ -1,14 +1,14 @@
 -- What one operation does to memory and what it answers; operations one after another.
-use Prim.Native.Nat.{ℕ, zero, suc}
-use mathlib.Core.Bool.{Bool, true, false, _&&_, cond}
-use mathlib.Core.List.{List, [], _∷_, _++_}
+use Prim.Native.Nat.{ℕ}
+use mathlib.Core.Bool.{Bool, true, false, cond}
+use mathlib.Core.List.{List, [], _∷_}
 use lib.ListN.{length}
 use lib.Dec.{eqb}
 use Rattle.meaning.specs.Octets.{same, every}
 use Rattle.meaning.specs.Checks.{Checks, passed, check, firstFailed, settle}
 use Rattle.meaning.specs.Table.{rowAt, place, listed, byController, adminBaseTime, adminControlListLength, adminControlList, adminCycleTime, commit}
 use Rattle.meaning.specs.Block.{sums, joinedBlock, formAndFit, permits}
-use Rattle.meaning.specs.Memory.{present, subscribed, pending, body, store, remark, fourPresent}
+use Rattle.meaning.specs.Memory.{present, pending, body, store, remark, fourPresent}
 use Rattle.meaning.specs.Operation.{Op, capabilities, read, set, subscribe, unsubscribe}
 
 -- an answer: all names; a value or a cause to a read; a value or a cause to a set; no record

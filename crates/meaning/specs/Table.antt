@@ -1,5 +1,5 @@
 -- The 19 parameters in the order of the table of contents: name, least and greatest length, who sets it, its value rule.
-use Prim.Native.Nat.{ℕ, zero, suc, _+_}
+use Prim.Native.Nat.{ℕ, suc, _+_}
 use mathlib.Core.Bool.{Bool, true, false, cond}
 use mathlib.Core.List.{List, [], _∷_}
 use lib.ListN.{getD, take}
