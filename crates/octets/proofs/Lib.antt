@@ -1,0 +1,3 @@
+-- Laws of what the functions leave in lent octets.
+pub mod Splices
+pub mod Tails

@@ -1,0 +1,59 @@
+-- Splices, one for each way in which octets are written: two stores, a part lent on, one write after another.
+use Prim.Native.Nat.{ℕ, _+_, _-_, _≤_}
+use native.Mathlib.Omega.{arith}
+use native.Mathlib.Numerals.{add-one}
+use mathlib.Core.Path.{_≡_, sym, ap, _∙_}
+use mathlib.Core.List.{List, [], _∷_, _++_, append-assoc, append-nil}
+use lib.ListN.{length, take, drop, set, length-append, take-append-drop, drop-of-length-le}
+use lib.Seq.{take-at, drop-append-add, drop-drop, length-take-le, take-length, sets-eq}
+use borrow.Rule.Slice.PartMut.{putMid, post-is}
+use Rattle.meaning.specs.Octets.{splice}
+
+-- nothing written is no change
+pub splice-nil : (s : List ℕ) (i : ℕ) → splice s i [] ≡ s
+unfolding splice
+splice-nil s i =
+    let e : i + 0 ≡ i = omega arith in
+    rw e (take-append-drop i s)
+
+-- two octets stored, the second behind the first
+pub two-stores : (s : List ℕ) (i a b : ℕ) → i + 2 ≤ length s → set (set s i a) (i + 1) b ≡ splice s i (a ∷ b ∷ [])
+unfolding splice
+two-stores s i a b h =
+    rw add-one (sets-eq (a ∷ b ∷ []) s i h) ∙ append-assoc (take i s) (a ∷ b ∷ []) (drop (i + 2) s)
+
+-- one write behind another is one write of both
+pub splice-splice : (s a b : List ℕ) (i : ℕ) → i + length a ≤ length s → splice (splice s i a) (i + length a) b ≡ splice s i (a ++ b)
+unfolding splice
+splice-splice s a b i h =
+    let p = take i s ++ a in
+    let d = drop (i + length a) s in
+    let l : length p ≡ i + length a = rw (length-append, length-take-le i s (omega arith)) in
+    let q : take i s ++ (a ++ d) ≡ p ++ d = sym (append-assoc (take i s) a d) in
+    let t : take (i + length a) (p ++ d) ≡ p = take-at p d (i + length a) l in
+    let n : i + length a + length b ≡ i + length (a ++ b) = simp length-append (omega arith) in
+    let e : drop (i + length a + length b) (p ++ d) ≡ drop (i + length (a ++ b)) s =
+    ap (λ (k : ℕ). drop (k + length b) (p ++ d)) (sym l)
+    ∙ drop-append-add p d (length b)
+    ∙ drop-drop (length b) (i + length a) s
+    ∙ ap (λ (k : ℕ). drop k s) n in
+    rw (q, t, e) (simp append-assoc)
+
+-- the same for what two calls leave
+pub then : (s a b : List ℕ) (i p : ℕ) {s₁ s₂ : List ℕ} → i + length a ≤ length s → p ≡ i + length a → s₁ ≡ splice s i a → s₂ ≡ splice s₁ p b → s₂ ≡ splice s i (a ++ b)
+then s a b i p h e e₁ e₂ = rw (e₂, e₁, e) (splice-splice s a b i h)
+
+-- a part that was lent comes back: the octets with the part's new ones in them
+pub lent-back : (m ys : List ℕ) (a e : ℕ) → a ≤ e → length ys ≡ e - a → putMid a (e - a) m ys ≡ splice m a ys
+unfolding splice
+lent-back m ys a e h l =
+    let k : a + length ys ≡ e = omega arith in
+    rw (post-is a e m h, k)
+
+-- octets copied into a part that is just as long
+pub copied-in : (out src part last : List ℕ) (at : ℕ) → length part ≡ at + length src - at → last ≡ take (length src) src ++ drop (length src) part
+    → putMid at (at + length src - at) out last ≡ splice out at src
+copied-in out src part last at n e =
+    let k : length part ≤ length src = omega arith in
+    let f : last ≡ src = rw (e, take-length src, drop-of-length-le part k) (append-nil src) in
+    lent-back out last at (at + length src) (omega arith) (rw f (omega arith)) ∙ ap (splice out at) f

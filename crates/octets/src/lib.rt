@@ -1,0 +1,96 @@
+// Octets in lent memory: numbers of two and four octets, a room filled, octets appended, a test for zeros.
+// Each function says by a definition of `meaning` what it returns and what every lent octet holds afterwards.
+ghost use Prim.Native.Nat.{_+_, _-_, _≤_, _<_};
+ghost use mathlib.Core.Path.{_≡_};
+ghost use mathlib.Core.List.{_++_};
+ghost use lib.ListN.{length, take};
+ghost use Rattle.meaning.specs.Octets.{at16, at32, be16, be32, splice, zeros, blank};
+
+// An octet as a number.
+pub fn wide(x: u8) -> usize
+    ensures { λ r. ⌜ (r ≡ x) × (r < 256) ⌝ }
+{
+    x as usize
+}
+
+// The number that two octets at a place spell.
+pub fn get16(s: &[u8], at: usize) -> usize
+    requires { ⌜ at + 2 ≤ length (now s) ⌝ }
+    ensures { λ r. ⌜ (r ≡ at16 (now (s .entry)) at) × (r < 65536) ⌝ }
+{
+    wide(s[at]) * 256 + wide(s[at + 1])
+}
+
+// The number that four octets at a place spell.
+pub fn get32(s: &[u8], at: usize) -> u64
+    requires { ⌜ at + 4 ≤ length (now s) ⌝ }
+    ensures { λ r. ⌜ (r ≡ at32 (now (s .entry)) at) × (r < 4294967296) ⌝ }
+{
+    let high = get16(s, at);
+    let low = get16(s, at + 2);
+    (high * 65536 + low) as u64
+}
+
+// A number written as two octets at a place.
+pub fn put16(s: &mut [u8], at: usize, v: usize)
+    requires { ⌜ (at + 2 ≤ length (now s)) × (v < 65536) ⌝ }
+    ensures { λ _. ⌜ now (s .exit) ≡ splice (now (s .entry)) at (be16 v) ⌝ }
+{
+    s[at] = (v / 256 % 256) as u8;
+    s[at + 1] = (v % 256) as u8;
+}
+
+// A number written as four octets at a place.
+pub fn put32(s: &mut [u8], at: usize, v: usize)
+    requires { ⌜ (at + 4 ≤ length (now s)) × (v < 4294967296) ⌝ }
+    ensures { λ _. ⌜ now (s .exit) ≡ splice (now (s .entry)) at (be32 v) ⌝ }
+{
+    put16(s, at, v / 65536);
+    put16(s, at + 2, v % 65536);
+}
+
+// Zeros from a place to the end.
+fn clear_from(room: &mut [u8], at: usize)
+    requires { ⌜ at ≤ length (now room) ⌝ }
+    ensures { λ _. ⌜ now (room .exit) ≡ take at (now (room .entry)) ++ zeros (length (now (room .entry)) - at) ⌝ }
+{
+    let mut i = at;
+    while i < room.len() {
+        room[i] = 0;
+        i += 1;
+    }
+}
+
+// A room filled with a value, its tail zeroed.
+pub fn fill(room: &mut [u8], value: &[u8])
+    requires { ⌜ length (now value) ≤ length (now room) ⌝ }
+    ensures { λ _. ⌜ now (room .exit) ≡ now (value .entry) ++ zeros (length (now (room .entry)) - length (now (value .entry))) ⌝ }
+{
+    bytes::copy(value, room);
+    clear_from(room, value.len());
+}
+
+// Octets written at a place; the place after them.
+pub fn append(out: &mut [u8], at: usize, src: &[u8]) -> usize
+    requires { ⌜ at + length (now src) ≤ length (now out) ⌝ }
+    ensures { λ r. ⌜ (r ≡ at + length (now (src .entry))) × (now (out .exit) ≡ splice (now (out .entry)) at (now (src .entry))) ⌝ }
+{
+    let end = at + src.len();
+    bytes::copy(src, &mut out[at..end]);
+    end
+}
+
+// Whether every octet is 0. It looks at all of them: with no early exit the loop compiles to vector code.
+pub fn is_blank(s: &[u8]) -> bool
+    ensures { λ r. ⌜ r ≡ blank (now (s .entry)) ⌝ }
+{
+    let mut ok = true;
+    let mut i = 0;
+    while i < s.len() {
+        if s[i] != 0 {
+            ok = false;
+        }
+        i += 1;
+    }
+    ok
+}
