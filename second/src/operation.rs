@@ -1,0 +1,74 @@
+//! The operations of a command, handed out one after another from the list.
+
+/// One operation.
+#[derive(Clone, Copy, Debug, PartialEq, Eq)]
+pub enum Operation<'m> {
+    /// Code 1.
+    GetCapabilities,
+    /// Code 2, with a name.
+    Read(u16),
+    /// Code 3, with a name and a value.
+    Set(u16, &'m [u8]),
+    /// Code 4, with a name.
+    Subscribe(u16),
+    /// Code 5, with a name.
+    Unsubscribe(u16),
+}
+
+/// An operation with an unknown code, or cut short by the end of the list.
+#[derive(Clone, Copy, Debug, PartialEq, Eq)]
+pub struct Malformed;
+
+/// Hands out the operations of a list; nothing more follows a malformed one.
+#[derive(Clone)]
+pub struct Operations<'m> {
+    rest: &'m [u8],
+}
+
+impl<'m> Operations<'m> {
+    /// Starts at the first octet of `list`.
+    pub fn of(list: &'m [u8]) -> Operations<'m> {
+        Operations { rest: list }
+    }
+
+    fn take(&mut self, count: usize) -> Option<&'m [u8]> {
+        let (taken, rest) = self.rest.split_at_checked(count)?;
+        self.rest = rest;
+        Some(taken)
+    }
+
+    fn number(&mut self) -> Option<u16> {
+        let (number, rest) = self.rest.split_first_chunk()?;
+        self.rest = rest;
+        Some(u16::from_be_bytes(*number))
+    }
+
+    fn body(&mut self, code: u8) -> Option<Operation<'m>> {
+        Some(match code {
+            1 => Operation::GetCapabilities,
+            2 => Operation::Read(self.number()?),
+            3 => {
+                let name = self.number()?;
+                let length = self.number()?;
+                Operation::Set(name, self.take(length.into())?)
+            }
+            4 => Operation::Subscribe(self.number()?),
+            5 => Operation::Unsubscribe(self.number()?),
+            _ => return None,
+        })
+    }
+}
+
+impl<'m> Iterator for Operations<'m> {
+    type Item = Result<Operation<'m>, Malformed>;
+
+    fn next(&mut self) -> Option<Self::Item> {
+        let (&code, rest) = self.rest.split_first()?;
+        self.rest = rest;
+        let operation = self.body(code);
+        if operation.is_none() {
+            self.rest = &[];
+        }
+        Some(operation.ok_or(Malformed))
+    }
+}

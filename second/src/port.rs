@@ -1,0 +1,222 @@
+//! Port memory: what sound memory is, and reading and changing memory known to be sound.
+
+use crate::table::{
+    Parameter, SetBy, BODIES, COMMIT, COUNT, ENTRY, EXPIRIES, GATE_ENABLED, LIST_MAX, PARTS, SIZE,
+    TABLE, TIMER,
+};
+
+/// Flag of an entry whose value is present.
+pub const PRESENT: u8 = 1;
+/// Flag of an entry whose changes are to be reported.
+pub const SUBSCRIBED: u8 = 2;
+/// Flag of an entry with a change that is not reported yet.
+pub const PENDING: u8 = 4;
+
+const IDLE: u8 = 0;
+const WAITING: u8 = 1;
+/// Expiries that are answered by sending again.
+const RESENDS: u8 = 4;
+
+/// Fresh memory.
+pub static FRESH: [u8; SIZE] = {
+    let mut octets = [0; SIZE];
+    let mut index = 0;
+    while index < COUNT {
+        let [high, low] = TABLE[index].name.to_be_bytes();
+        octets[index * ENTRY] = high;
+        octets[index * ENTRY + 1] = low;
+        index += 1;
+    }
+    octets[GATE_ENABLED * ENTRY + 2] = PRESENT;
+    octets[GATE_ENABLED * ENTRY + 5] = 1;
+    octets[LIST_MAX * ENTRY + 2] = PRESENT;
+    octets[LIST_MAX * ENTRY + 5] = 4;
+    octets[TABLE[LIST_MAX].start + 3] = 64;
+    octets
+};
+
+/// What an expiry leads to.
+pub enum Expiry {
+    /// The notification is to be sent again.
+    SendAgain,
+    /// The fifth expiry: nothing is waited for any more.
+    GivenUp,
+}
+
+/// Sound memory, lent for one call.
+pub struct Port<'a> {
+    octets: &'a mut [u8; SIZE],
+}
+
+impl<'a> Port<'a> {
+    /// Takes lent memory if it has 2,100 octets and is sound.
+    pub fn lend(memory: &'a mut [u8]) -> Option<Port<'a>> {
+        let octets: &mut [u8; SIZE] = memory.try_into().ok()?;
+        is_sound(octets).then_some(Port { octets })
+    }
+
+    /// The flags of an entry.
+    pub fn flags(&self, index: usize) -> u8 {
+        self.octets[index * ENTRY + 2]
+    }
+
+    /// Replaces the flags of an entry.
+    pub fn set_flags(&mut self, index: usize, flags: u8) {
+        self.octets[index * ENTRY + 2] = flags;
+    }
+
+    /// The value of an entry; for the commit, the running block.
+    pub fn value(&self, index: usize) -> Option<&[u8]> {
+        value_in(self.octets, index)
+    }
+
+    /// Gives an entry a value that its rule permits.
+    pub fn put(&mut self, index: usize, value: &[u8]) {
+        let (body, tail) = self.room(index).split_at_mut(value.len());
+        body.copy_from_slice(value);
+        tail.fill(0);
+        self.describe(index, PRESENT, value.len());
+    }
+
+    /// Makes the value of an entry absent.
+    pub fn remove(&mut self, index: usize) {
+        self.room(index).fill(0);
+        self.describe(index, 0, 0);
+    }
+
+    /// Makes a block the running one. Each of its values is the one given here, or else the one
+    /// that memory holds.
+    pub fn run(&mut self, values: [Option<&[u8]>; PARTS.len()]) {
+        let (values_held, room) = self.octets.split_at_mut(TABLE[COMMIT].start);
+        let mut length = 0;
+        for (part, value) in PARTS.into_iter().zip(values) {
+            let value = value.or(value_in(values_held, part)).unwrap_or_default();
+            room[length..length + value.len()].copy_from_slice(value);
+            length += value.len();
+        }
+        room[length..].fill(0);
+        self.describe(COMMIT, PRESENT, length);
+    }
+
+    /// Whether a notification waits for its acknowledgement.
+    pub fn is_waiting(&self) -> bool {
+        self.octets[TIMER] == WAITING
+    }
+
+    /// Starts waiting, with no expiry so far.
+    pub fn wait(&mut self) {
+        self.octets[TIMER] = WAITING;
+        self.octets[EXPIRIES] = 0;
+    }
+
+    /// Becomes idle.
+    pub fn rest(&mut self) {
+        self.octets[TIMER] = IDLE;
+        self.octets[EXPIRIES] = 0;
+    }
+
+    /// Counts an expiry while waiting.
+    pub fn expire(&mut self) -> Expiry {
+        if self.octets[EXPIRIES] < RESENDS {
+            self.octets[EXPIRIES] += 1;
+            Expiry::SendAgain
+        } else {
+            self.rest();
+            Expiry::GivenUp
+        }
+    }
+
+    fn room(&mut self, index: usize) -> &mut [u8] {
+        let Parameter { start, most, .. } = TABLE[index];
+        &mut self.octets[start..start + most]
+    }
+
+    /// Writes presence and length to the table of contents; the marks stay.
+    fn describe(&mut self, index: usize, presence: u8, length: usize) {
+        self.set_flags(index, self.flags(index) & !PRESENT | presence);
+        let at = index * ENTRY + 4;
+        self.octets[at..at + 2].copy_from_slice(&(length as u16).to_be_bytes());
+    }
+}
+
+/// The value of an entry of sound memory, of which the last rooms may be missing.
+pub fn value_in(octets: &[u8], index: usize) -> Option<&[u8]> {
+    let entry = Entry::of(octets, index);
+    let start = TABLE[index].start;
+    (entry.is_present()).then(|| &octets[start..start + entry.length])
+}
+
+/// An entry of the table of contents.
+struct Entry {
+    name: u16,
+    flags: u8,
+    zero: u8,
+    length: usize,
+}
+
+impl Entry {
+    fn of(octets: &[u8], index: usize) -> Entry {
+        let entry = &octets[index * ENTRY..(index + 1) * ENTRY];
+        Entry {
+            name: u16::from_be_bytes([entry[0], entry[1]]),
+            flags: entry[2],
+            zero: entry[3],
+            length: u16::from_be_bytes([entry[4], entry[5]]).into(),
+        }
+    }
+
+    fn is_present(&self) -> bool {
+        self.flags & PRESENT != 0
+    }
+
+    /// All that can be told of an entry without its body.
+    fn is_sound(&self, parameter: &Parameter) -> bool {
+        let pending_allowed = self.flags & SUBSCRIBED != 0 && parameter.set_by == SetBy::Port;
+        self.name == parameter.name
+            && self.zero == 0
+            && self.flags & !(PRESENT | SUBSCRIBED | PENDING) == 0
+            && (self.flags & PENDING == 0 || pending_allowed)
+            && (self.is_present() || self.length == 0)
+    }
+}
+
+fn is_sound(octets: &[u8; SIZE]) -> bool {
+    let mut present = [false; COUNT];
+    // Absent rooms and the tails of values join up, so one look covers all between two values.
+    let mut value_end = BODIES;
+    for (index, parameter) in TABLE.iter().enumerate() {
+        let entry = Entry::of(octets, index);
+        if !entry.is_sound(parameter) {
+            return false;
+        }
+        if entry.is_present() {
+            let start = parameter.start;
+            let Some(value) = octets.get(start..start + entry.length) else {
+                return false;
+            };
+            if !parameter.permits(value) || !is_zero(&octets[value_end..start]) {
+                return false;
+            }
+            value_end = start + entry.length;
+        }
+        present[index] = entry.is_present();
+    }
+    is_zero(&octets[value_end..])
+        && present[GATE_ENABLED]
+        && present[LIST_MAX]
+        && (!present[COMMIT] || PARTS.iter().all(|&part| present[part]))
+        && is_timer(octets[TIMER], octets[EXPIRIES])
+}
+
+fn is_timer(state: u8, expiries: u8) -> bool {
+    match state {
+        IDLE => expiries == 0,
+        WAITING => expiries <= RESENDS,
+        _ => false,
+    }
+}
+
+/// Joins all octets instead of ending early, which lets the loop run on wide registers.
+fn is_zero(octets: &[u8]) -> bool {
+    octets.iter().fold(0, |joined, octet| joined | octet) == 0
+}

@@ -1,0 +1,282 @@
+//! Replies and notifications: the records they hold, their measure, and writing them.
+
+use crate::table::{COUNT, TABLE};
+
+const COMPLETE: u8 = 0x02;
+const NOTIFY: u8 = 0x03;
+const CAPABILITY: u8 = 0x70;
+const STATUS: u8 = 0x71;
+const UPDATE_RESULT: u8 = 0x72;
+
+/// Longest reply.
+const LONGEST: usize = 4_096;
+/// Longest value that a short update record can tell.
+const LONGEST_SHORT: usize = u8::MAX as usize;
+/// Identifier and length of an element.
+const HEAD: usize = 3;
+
+/// Element 70, the same in every reply that has it.
+static CAPABILITIES: [u8; HEAD + 2 * COUNT] = {
+    let mut element = [0; HEAD + 2 * COUNT];
+    element[0] = CAPABILITY;
+    element[2] = 2 * COUNT as u8;
+    let mut index = 0;
+    while index < COUNT {
+        let [high, low] = TABLE[index].name.to_be_bytes();
+        element[HEAD + 2 * index] = high;
+        element[HEAD + 2 * index + 1] = low;
+        index += 1;
+    }
+    element
+};
+
+/// Why a read or a set failed.
+#[derive(Clone, Copy, Debug, PartialEq, Eq)]
+pub enum Cause {
+    /// 01: the name is not in the table.
+    NotSupported,
+    /// 02: length, value rule or commit not met.
+    InvalidValue,
+    /// 03: the value is absent.
+    Unavailable,
+    /// 6F: not set by the controller.
+    Unspecified,
+}
+
+impl Cause {
+    fn octets(self) -> &'static [u8] {
+        match self {
+            Cause::NotSupported => &[0x01],
+            Cause::InvalidValue => &[0x02],
+            Cause::Unavailable => &[0x03],
+            Cause::Unspecified => &[0x6F],
+        }
+    }
+}
+
+/// The five kinds of record, in the order in which a reply has them.
+#[derive(Clone, Copy, PartialEq, Eq)]
+enum Kind {
+    Value,
+    ReadError,
+    Update,
+    UpdateError,
+    LongUpdate,
+}
+
+const KINDS: usize = 5;
+
+impl Kind {
+    /// Octets of the length that stands between the name and the body.
+    fn width(self) -> usize {
+        match self {
+            Kind::ReadError | Kind::UpdateError => 0,
+            Kind::Update => 1,
+            Kind::Value | Kind::LongUpdate => 2,
+        }
+    }
+}
+
+/// A name with its value or its cause.
+pub struct Record<'a> {
+    kind: Kind,
+    name: u16,
+    body: &'a [u8],
+}
+
+impl<'a> Record<'a> {
+    /// The record of a read.
+    pub fn of_read(name: u16, value: Result<&'a [u8], Cause>) -> Record<'a> {
+        match value {
+            Ok(body) => Record::new(Kind::Value, name, body),
+            Err(cause) => Record::new(Kind::ReadError, name, cause.octets()),
+        }
+    }
+
+    /// The record of a set.
+    pub fn of_set(name: u16, value: Result<&'a [u8], Cause>) -> Record<'a> {
+        match value {
+            Ok(body) if body.len() > LONGEST_SHORT => Record::new(Kind::LongUpdate, name, body),
+            Ok(body) => Record::new(Kind::Update, name, body),
+            Err(cause) => Record::new(Kind::UpdateError, name, cause.octets()),
+        }
+    }
+
+    fn new(kind: Kind, name: u16, body: &'a [u8]) -> Record<'a> {
+        Record { kind, name, body }
+    }
+
+    fn octets(&self) -> usize {
+        2 + self.kind.width() + self.body.len()
+    }
+}
+
+/// What one operation adds to the reply.
+pub enum Outcome<'a> {
+    /// Nothing.
+    Silent,
+    /// The list of names.
+    Capabilities,
+    /// A record.
+    Record(Record<'a>),
+}
+
+/// The measure of a reply: which elements it needs and how large its sections are.
+#[derive(Default)]
+pub struct Measure {
+    capabilities: bool,
+    counts: [usize; KINDS],
+    octets: [usize; KINDS],
+}
+
+impl Measure {
+    /// Takes in what one operation adds.
+    pub fn add(&mut self, outcome: &Outcome) {
+        match outcome {
+            Outcome::Silent => {}
+            Outcome::Capabilities => self.capabilities = true,
+            Outcome::Record(record) => {
+                self.counts[record.kind as usize] += 1;
+                self.octets[record.kind as usize] += record.octets();
+            }
+        }
+    }
+
+    /// The whole reply's length, if it may be written into a room of `room` octets.
+    pub fn reply_length(&self, room: usize) -> Option<usize> {
+        let mut length = 1;
+        if self.capabilities {
+            length += CAPABILITIES.len();
+        }
+        if self.has_reads() {
+            length += HEAD + self.status();
+        }
+        if self.has_sets() {
+            length += HEAD + self.update_result();
+        }
+        // Long updates are told by a length and not by a count.
+        let counted = &self.counts[..Kind::LongUpdate as usize];
+        let countable = counted.iter().all(|&count| count <= usize::from(u8::MAX));
+        (countable && length <= room.min(LONGEST)).then_some(length)
+    }
+
+    /// Whether there is no record.
+    pub fn is_empty(&self) -> bool {
+        self.counts == [0; KINDS]
+    }
+
+    /// The whole notification's length.
+    pub fn notification_length(&self) -> usize {
+        HEAD + self.status()
+    }
+
+    fn has(&self, kind: Kind) -> bool {
+        self.counts[kind as usize] > 0
+    }
+
+    fn has_reads(&self) -> bool {
+        self.has(Kind::Value) || self.has(Kind::ReadError)
+    }
+
+    fn has_sets(&self) -> bool {
+        self.has(Kind::Update) || self.has(Kind::UpdateError) || self.has(Kind::LongUpdate)
+    }
+
+    fn status(&self) -> usize {
+        1 + self.octets[Kind::Value as usize] + 1 + self.octets[Kind::ReadError as usize]
+    }
+
+    fn update_result(&self) -> usize {
+        let short =
+            2 + self.octets[Kind::Update as usize] + self.octets[Kind::UpdateError as usize];
+        if self.has(Kind::LongUpdate) {
+            short + 2 + self.octets[Kind::LongUpdate as usize]
+        } else {
+            short
+        }
+    }
+}
+
+/// Writes a measured reply: first all that stands between the records, then the records, each
+/// at the next place of its section.
+pub struct Writer<'r> {
+    room: &'r mut [u8],
+    at: usize,
+    next: [usize; KINDS],
+}
+
+impl<'r> Writer<'r> {
+    /// Starts a COMPLETE in a room that is large enough.
+    pub fn reply(room: &'r mut [u8], measure: &Measure) -> Writer<'r> {
+        let mut writer = Writer::start(room);
+        writer.put(&[COMPLETE]);
+        if measure.capabilities {
+            writer.put(&CAPABILITIES);
+        }
+        if measure.has_reads() {
+            writer.head(STATUS, measure.status());
+            writer.counted([Kind::Value, Kind::ReadError], measure);
+        }
+        if measure.has_sets() {
+            writer.head(UPDATE_RESULT, measure.update_result());
+            writer.counted([Kind::Update, Kind::UpdateError], measure);
+            if measure.has(Kind::LongUpdate) {
+                let octets = measure.octets[Kind::LongUpdate as usize];
+                writer.put(&(octets as u16).to_be_bytes());
+                writer.section(Kind::LongUpdate, octets);
+            }
+        }
+        writer
+    }
+
+    /// Starts a notification in a room that is large enough.
+    pub fn notification(room: &'r mut [u8], measure: &Measure) -> Writer<'r> {
+        let mut writer = Writer::start(room);
+        writer.head(NOTIFY, measure.status());
+        writer.counted([Kind::Value, Kind::ReadError], measure);
+        writer
+    }
+
+    /// Writes what one operation adds.
+    pub fn add(&mut self, outcome: &Outcome) {
+        let Outcome::Record(record) = outcome else {
+            return;
+        };
+        self.at = self.next[record.kind as usize];
+        self.put(&record.name.to_be_bytes());
+        let length = (record.body.len() as u16).to_be_bytes();
+        self.put(&length[length.len() - record.kind.width()..]);
+        self.put(record.body);
+        self.next[record.kind as usize] = self.at;
+    }
+
+    fn start(room: &'r mut [u8]) -> Writer<'r> {
+        Writer {
+            room,
+            at: 0,
+            next: [0; KINDS],
+        }
+    }
+
+    fn put(&mut self, octets: &[u8]) {
+        self.room[self.at..self.at + octets.len()].copy_from_slice(octets);
+        self.at += octets.len();
+    }
+
+    fn head(&mut self, identifier: u8, length: usize) {
+        self.put(&[identifier]);
+        self.put(&(length as u16).to_be_bytes());
+    }
+
+    fn counted(&mut self, kinds: [Kind; 2], measure: &Measure) {
+        for kind in kinds {
+            self.put(&[measure.counts[kind as usize] as u8]);
+            self.section(kind, measure.octets[kind as usize]);
+        }
+    }
+
+    fn section(&mut self, kind: Kind, octets: usize) {
+        self.next[kind as usize] = self.at;
+        self.at += octets;
+    }
+}

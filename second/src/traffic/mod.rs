@@ -1,0 +1,87 @@
+//! Seeded traffic: streams of frames for `bridge` and scripts for `rig`, the same on every machine.
+
+mod commands;
+mod dice;
+mod memories;
+mod schedules;
+mod script;
+mod values;
+
+use std::io::{self, Write};
+use std::str::FromStr;
+
+use crate::{take_message, FRESH};
+use dice::Dice;
+
+/// One stream in this many ends with a piece that is cut.
+const CUT_STREAMS: usize = 4;
+/// Octets of the room that `bridge` has for a reply.
+const ROOM: usize = 4_096;
+
+/// What a stream is made of.
+#[derive(Clone, Copy, Debug, PartialEq, Eq)]
+pub enum Kind {
+    /// Frames for `bridge`.
+    Frames,
+    /// Records for `rig`.
+    Script,
+}
+
+impl FromStr for Kind {
+    type Err = String;
+
+    fn from_str(word: &str) -> Result<Kind, String> {
+        match word {
+            "frames" => Ok(Kind::Frames),
+            "script" => Ok(Kind::Script),
+            _ => Err(format!("KIND is frames or script, not {word:?}")),
+        }
+    }
+}
+
+/// Reads a number of the given meaning.
+pub fn number(meaning: &str, word: &str) -> Result<u64, String> {
+    let number = word.parse();
+    number.map_err(|_| format!("{meaning} is a number of at most 64 bits, not {word:?}"))
+}
+
+/// Writes the stream of `count` pieces that belongs to `seed`.
+pub fn write<W: Write>(kind: Kind, seed: u64, count: u64, sink: &mut W) -> io::Result<()> {
+    match kind {
+        Kind::Frames => write_frames(&mut Dice::new(seed), count, sink),
+        Kind::Script => script::write(&mut Dice::new(seed), count, sink),
+    }
+}
+
+/// The same stream, in memory.
+pub fn stream(kind: Kind, seed: u64, count: u64) -> Vec<u8> {
+    let mut octets = Vec::new();
+    // Writing to a vector cannot fail.
+    let _ = write(kind, seed, count, &mut octets);
+    octets
+}
+
+fn write_frames<W: Write>(dice: &mut Dice, count: u64, sink: &mut W) -> io::Result<()> {
+    let mut memory = FRESH;
+    let mut room = [0; ROOM];
+    let cut = dice.one_in(CUT_STREAMS);
+    for left in (0..count).rev() {
+        let message = commands::message(dice, &memory);
+        take_message(&mut memory, &message, &mut room);
+        let mut frame = (message.len() as u16).to_be_bytes().to_vec();
+        frame.extend(message);
+        if cut && left == 0 {
+            shorten(dice, &mut frame, 2);
+        }
+        sink.write_all(&frame)?;
+    }
+    Ok(())
+}
+
+/// Cuts a piece within its head, right after it, or within its body.
+fn shorten(dice: &mut Dice, piece: &mut Vec<u8>, head: usize) {
+    let last = piece.len() - 1;
+    let within_head = dice.between(1, head - 1);
+    let kept = [within_head, head, last, dice.between(1, last)];
+    piece.truncate(dice.pick(&kept).min(last));
+}

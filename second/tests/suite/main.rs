@@ -1,0 +1,17 @@
+//! All tests of the endpoint and its programs, in one program of their own.
+
+mod bridge;
+mod compare;
+mod cut_law;
+mod examples;
+mod kit;
+mod no_panic;
+mod numbers;
+mod order;
+mod process;
+mod rig;
+mod rules;
+mod sound;
+mod soundness;
+mod subscriptions;
+mod traffic;

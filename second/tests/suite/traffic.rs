@@ -1,0 +1,227 @@
+//! What `traffic` is made of: every number and every kind of message with useful frequency.
+
+use std::collections::BTreeMap;
+
+use crate::kit::{Bench, Reply};
+use second::traffic::{stream, Kind};
+
+const SCRIPTS: u64 = 200;
+const RECORDS: u64 = 200;
+
+/// The pieces of a stream, the last cut one excepted.
+fn pieces(stream: &[u8], head: usize) -> Vec<(Vec<u8>, Vec<u8>)> {
+    let mut rest = stream;
+    let mut pieces = Vec::new();
+    while let Some((front, after)) = rest.split_at_checked(head) {
+        let length = usize::from(front[head - 2]) * 256 + usize::from(front[head - 1]);
+        let Some((body, after)) = after.split_at_checked(length) else {
+            break;
+        };
+        pieces.push((front.to_vec(), body.to_vec()));
+        rest = after;
+    }
+    pieces
+}
+
+fn printed(script: &[u8]) -> Vec<String> {
+    let mut output = Vec::new();
+    second::rig::run(script, &mut output).unwrap();
+    String::from_utf8(output)
+        .unwrap()
+        .lines()
+        .map(String::from)
+        .collect()
+}
+
+#[test]
+fn scripts_reach_every_number() {
+    let mut reached: BTreeMap<u8, usize> = BTreeMap::new();
+    let mut cut = 0;
+    for seed in 1..=SCRIPTS {
+        let lines = printed(&stream(Kind::Script, seed, RECORDS));
+        assert_eq!(lines.len() as u64, RECORDS, "seed {seed}");
+        assert!(lines[..lines.len() - 1].iter().all(|line| line != "cut"));
+        cut += usize::from(lines.last().unwrap() == "cut");
+        for line in lines {
+            if let Some(Ok(number)) = line.split_once(' ').map(|(number, _)| number.parse()) {
+                *reached.entry(number).or_default() += 1;
+            }
+        }
+    }
+    let numbers: Vec<u8> = reached.keys().copied().collect();
+    let wanted: Vec<u8> = (0..=12).chain([20, 21]).collect();
+    assert_eq!(numbers, wanted);
+    assert!(reached.values().all(|count| *count >= 40), "{reached:?}");
+    assert!((10..60).contains(&cut), "{cut} scripts end cut");
+}
+
+#[test]
+fn records_show_memory_and_room_often() {
+    let mut codes = [0_usize; 9];
+    for seed in 1..=SCRIPTS {
+        for (head, _) in pieces(&stream(Kind::Script, seed, RECORDS), 3) {
+            if let Some(count) = codes.get_mut(usize::from(head[0])) {
+                *count += 1;
+            }
+        }
+    }
+    assert!(codes.iter().all(|count| *count > 300), "{codes:?}");
+    assert!(codes[6] > 5_000 && codes[7] > 5_000, "{codes:?}");
+}
+
+/// What the frames of a stream have shown.
+#[derive(Default, Debug)]
+struct Seen {
+    messages: usize,
+    carried_out: usize,
+    commits: usize,
+    refused_commits: usize,
+    counts: BTreeMap<usize, usize>,
+    lists: BTreeMap<usize, usize>,
+    lengths: BTreeMap<usize, usize>,
+    replies: BTreeMap<usize, usize>,
+}
+
+impl Seen {
+    fn take(&mut self, bench: &mut Bench, message: &[u8]) {
+        let (number, reply) = bench.send(message);
+        self.messages += 1;
+        *self.lengths.entry(message.len()).or_default() += 1;
+        if number != 0 || reply == [5] {
+            return;
+        }
+        self.carried_out += 1;
+        *self.replies.entry(reply.len()).or_default() += 1;
+        let reply = Reply::parse(&reply);
+        self.commits += reply
+            .updates
+            .iter()
+            .filter(|(name, _)| *name == 0x8001)
+            .count();
+        self.refused_commits += reply
+            .update_errors
+            .iter()
+            .filter(|e| **e == (0x8001, 2))
+            .count();
+        for count in [reply.values.len(), reply.updates.len()] {
+            *self.counts.entry(count).or_default() += 1;
+        }
+        for (_, value) in reply
+            .updates
+            .iter()
+            .chain(&reply.long_updates)
+            .filter(|u| u.0 == 6)
+        {
+            *self.lists.entry(value.len() / 7).or_default() += 1;
+        }
+    }
+}
+
+fn often(counts: &BTreeMap<usize, usize>, wanted: &[usize], least: usize) {
+    for number in wanted {
+        let count = counts.get(number).copied().unwrap_or(0);
+        assert!(count >= least, "{number} seen {count} times");
+    }
+}
+
+#[test]
+fn frames_have_every_kind_of_message() {
+    let mut seen = Seen::default();
+    for seed in 1..=100 {
+        let mut bench = Bench::fresh();
+        for (_, message) in pieces(&stream(Kind::Frames, seed, 200), 2) {
+            seen.take(&mut bench, &message);
+        }
+    }
+    assert!(
+        seen.carried_out * 3 > seen.messages * 2,
+        "{} carried out",
+        seen.carried_out
+    );
+    assert!(seen.commits > 1_000, "{} commits", seen.commits);
+    assert!(
+        seen.refused_commits > 1_000,
+        "{} refused commits",
+        seen.refused_commits
+    );
+    often(&seen.lists, &[0, 1, 36, 37, 64], 100);
+    often(&seen.lengths, &[0, 1, 2, 2_048, 2_049, 65_535], 50);
+    often(&seen.counts, &[255], 100);
+    often(&seen.replies, &[4_095, 4_096], 50);
+}
+
+/// Plays a script on a bench and shows each message, with its room, to `watch` before it is sent.
+fn play(script: &[u8], mut watch: impl FnMut(&Bench, &[u8], usize)) {
+    let mut bench = Bench::fresh();
+    let number = |body: &[u8]| u16::from_be_bytes([body[0], body[1]]);
+    for (head, body) in pieces(script, 3) {
+        match (head[0], body.len()) {
+            (0, 0) => drop(bench.make_fresh()),
+            (1, 2..) => {
+                let room = number(&body).into();
+                watch(&bench, &body[2..], room);
+                bench.send_into(&body[2..], room);
+            }
+            (2, 2..) => drop(bench.local(number(&body), &body[2..])),
+            (3, 2) => drop(bench.build_into(number(&body).into())),
+            (4, 0) => drop(bench.expire()),
+            (5, 0..=2_200) => bench.memory = body,
+            _ => {}
+        }
+    }
+}
+
+#[test]
+fn rooms_lie_around_the_length_of_the_reply() {
+    let mut distances: BTreeMap<i64, usize> = BTreeMap::new();
+    for seed in 1..=50 {
+        play(
+            &stream(Kind::Script, seed, RECORDS),
+            |bench, message, room| {
+                let (_, reply) = bench.clone().send_into(message, 8_192);
+                *distances
+                    .entry(room as i64 - reply.len() as i64)
+                    .or_default() += 1;
+            },
+        );
+    }
+    for distance in -2..=2 {
+        let count = distances.get(&distance).copied().unwrap_or(0);
+        assert!(count >= 50, "{count} rooms at distance {distance}");
+    }
+}
+
+#[test]
+fn most_commands_of_a_script_are_carried_out() {
+    let (mut commands, mut carried_out) = (0, 0);
+    for seed in 1..=SCRIPTS {
+        play(
+            &stream(Kind::Script, seed, RECORDS),
+            |bench, message, room| {
+                if bench.is_sound() && message.first() == Some(&1) {
+                    commands += 1;
+                    carried_out += usize::from(bench.clone().send_into(message, room).0 == 0);
+                }
+            },
+        );
+    }
+    assert!(
+        carried_out * 3 > commands * 2,
+        "{carried_out} of {commands}"
+    );
+}
+
+/// A stream is the same on every machine; this pins one of each kind (FNV-1a, 64 bits).
+#[test]
+fn streams_follow_from_their_seed_alone() {
+    let digest = |kind, seed| {
+        let start = 0xCBF2_9CE4_8422_2325_u64;
+        let step =
+            |hash: u64, octet: &u8| (hash ^ u64::from(*octet)).wrapping_mul(0x0100_0000_01B3);
+        stream(kind, seed, 1_000).iter().fold(start, step)
+    };
+    assert_ne!(digest(Kind::Frames, 1), digest(Kind::Frames, 2));
+    assert_ne!(digest(Kind::Script, 1), digest(Kind::Script, 2));
+    assert_eq!(digest(Kind::Frames, 1), 0x5399_F764_69FC_26DD);
+    assert_eq!(digest(Kind::Script, 1), 0x5C7C_E4AA_7143_8DF6);
+}
