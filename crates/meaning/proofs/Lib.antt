@@ -19,6 +19,8 @@ pub mod Cut
 pub mod Ignored
 pub mod Notified
 pub mod Refused
+pub mod Numbers
 pub mod Timer
 pub mod Delays
+pub mod Edges
 pub mod Bench

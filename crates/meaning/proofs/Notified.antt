@@ -2,14 +2,14 @@
 use Prim.Native.Nat.{ℕ, zero, suc, _+_, _≤_, _<_}
 use native.Mathlib.Omega.{arith}
 use mathlib.Core.Path.{_≡_, refl, sym, ap, _∙_}
-use mathlib.Core.Bool.{Bool, true, false, cond}
+use mathlib.Core.Bool.{Bool, true, false, _&&_, not, cond}
 use mathlib.Core.List.{List, [], _∷_, _++_}
 use lib.ListN.{length, drop, length-append}
 use Rattle.meaning.specs.Octets.{be16, flat}
 use Rattle.meaning.specs.Table.{rowAt, rows, byPort, entryCount}
 use Rattle.meaning.specs.Memory.{cell, present, pending, body, isPending, isSubscribed, sound}
-use Rattle.meaning.specs.Step.{value, readError}
-use Rattle.meaning.specs.Reply.{Records, noRecords, joined, recordOf, gathered, heldOctets, failedOctets}
+use Rattle.meaning.specs.Step.{Answer, value, readError}
+use Rattle.meaning.specs.Reply.{Held, Failed, held, failed, Records, noRecords, joined, recordOf, gathered, heldOctets, failedOctets}
 use Rattle.meaning.specs.Calls.{report, reports, notification}
 use Rattle.meaning.proofs.Lists.{flat-length}
 use Rattle.meaning.proofs.Tests.{and-right, implied}
@@ -153,3 +153,34 @@ notification-read m =
       updateErrors = sym (t .noUpdateErrors) i;
       longUpdates = sym (t .noLongUpdates) i;
     }
+
+-- ---- what it says: all pending names in table order, an absent one as an error with cause 03
+
+unfoldable pub pendingValues : List ℕ → ℕ → List Held
+pendingValues m zero = []
+pendingValues m (suc k) = pendingValues m k ++ cond (pending m k && present m k) (held (rowAt k .name) (body m k)) []
+
+unfoldable pub pendingErrors : List ℕ → ℕ → List Failed
+pendingErrors m zero = []
+pendingErrors m (suc k) = pendingErrors m k ++ cond (pending m k && not (present m k)) (failed (rowAt k .name) 0x03) []
+
+reports-say : (m : List ℕ) (k : ℕ)
+    → (gathered (reports m k) .values ≡ pendingValues m k) × (gathered (reports m k) .readErrors ≡ pendingErrors m k)
+unfolding reports report gathered recordOf pendingValues pendingErrors
+reports-say m zero = (refl, refl)
+reports-say m (suc k) = go (pending m k) (present m k) (reports-say m k)
+  where
+    one-report : Bool → Bool → List Answer
+    one-report p q = cond p (cond q (value (rowAt k .name) (body m k)) (readError (rowAt k .name) 0x03) ∷ []) []
+
+    go : (p q : Bool)
+        → (gathered (reports m k) .values ≡ pendingValues m k) × (gathered (reports m k) .readErrors ≡ pendingErrors m k)
+        → (gathered (reports m k ++ one-report p q) .values ≡ pendingValues m k ++ cond (p && q) (held (rowAt k .name) (body m k)) [])
+        × (gathered (reports m k ++ one-report p q) .readErrors ≡ pendingErrors m k ++ cond (p && not q) (failed (rowAt k .name) 0x03) [])
+    go true true h = let e = gathered-append (reports m k) (one-report true true) in (rw (e, h .0), rw (e, h .1))
+    go true false h = let e = gathered-append (reports m k) (one-report true false) in (rw (e, h .0), rw (e, h .1))
+    go false q h = let e = gathered-append (reports m k) [] in (rw (e, h .0), rw (e, h .1))
+
+pub notification-says : (m : List ℕ)
+    → (decodeNotification (notification m) .values ≡ pendingValues m entryCount) × (decodeNotification (notification m) .readErrors ≡ pendingErrors m entryCount)
+notification-says m = rw (notification-read m) (reports-say m entryCount)

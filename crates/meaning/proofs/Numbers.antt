@@ -1,0 +1,182 @@
+-- Demand 1 and document 01's table of numbers: which number each call returns when, in the order given there. A number comes before
+-- those that are named after it whatever their own tests say.
+use Prim.Native.Nat.{ℕ, zero, suc, _+_, _*_, _≤_, _<_}
+use native.Mathlib.Omega.{arith}
+use mathlib.Core.Path.{_≡_, refl}
+use mathlib.Core.Logic.{_≢_, _⊎_, inl, inr}
+use mathlib.Core.Bool.{Bool, true, false, _||_}
+use mathlib.Core.Option.{none, some}
+use mathlib.Core.List.{List, [], append-nil}
+use lib.ListN.{length}
+use borrow.Author.Tests.{leb-true, le-leb, lt-leb, eq-eqb, ne-eqb}
+use Rattle.meaning.specs.Octets.{octet, at16, every, implies, nonempty}
+use Rattle.meaning.specs.Checks.{Checks, passed, check, firstFailed, settle}
+use Rattle.meaning.specs.Table.{entryCount, memoryLength}
+use Rattle.meaning.specs.Memory.{pending, waiting, sound}
+use Rattle.meaning.specs.Operation.{Op, parse, isSome}
+use Rattle.meaning.specs.Calls.{Outcome, told, call, isCommand, isAcknowledgement, lengthField, operations, lengthRight, records, carriedOut, acknowledged, deed, fits, messageChecks, message, localPermitted, localChecks, localValue, reports, buildChecks, build, expiryChecks, expiry, makeFresh}
+use Rattle.meaning.proofs.Tests.{every-at}
+use Rattle.meaning.proofs.Records.{Fits, fits-opened}
+use Rattle.meaning.proofs.Accepted.{ops-parsed}
+
+-- nothing pending, nothing to report
+no-reports : (m : List ℕ) (k : ℕ) → ((j : ℕ) → j < k → pending m j ≡ false) → nonempty (reports m k) ≡ false
+unfolding reports
+no-reports m zero p = refl
+no-reports m (suc k) p =
+    rw (p k (omega arith), append-nil (reports m k)) (no-reports m k (λ j h. p j (omega arith)))
+
+-- a call whose first failing check has the number n gives that number and changes nothing
+refuses : (cs : Checks) (o : Outcome) (m room : List ℕ) (n : ℕ) → firstFailed cs ≡ suc n → call cs o m room ≡ told (suc n) m room
+unfolding call settle
+refuses cs o m room n e = rw e
+
+-- ---- a message: 1 to 6, with 8 for type 04, then 7
+
+-- what passed before type and contents are looked at
+pub record Taken (m s : List ℕ) : Type 0 where
+  pub isSound : sound m ≡ true
+  pub nonzero : 1 ≤ length s
+  pub short : length s ≤ 2048
+
+-- type 01, and L there, not 0 and not past the end
+pub record Measured (m s : List ℕ) : Type 0 where
+  pub taken : Taken m s
+  pub type : octet s 0 ≡ 1
+  pub there : 3 ≤ length s
+  pub notZero : 1 ≤ octet s 1 * 256 + octet s 2
+  pub inside : 3 + (octet s 1 * 256 + octet s 2) ≤ length s
+
+-- L missing, 0, or past the end
+abbrev pub WrongLength : List ℕ → Type 0
+WrongLength s = (length s < 3) ⊎ ((octet s 1 * 256 + octet s 2 ≡ 0) ⊎ (length s < 3 + (octet s 1 * 256 + octet s 2)))
+
+length-wrong : (s : List ℕ) → WrongLength s → lengthRight s ≡ false
+unfolding lengthRight lengthField at16
+length-wrong s d = go (lengthRight s) refl d
+  where
+    go : (b : Bool) → lengthRight s ≡ b → WrongLength s → lengthRight s ≡ false
+    go false e w = e
+    go true e (inl w) = absurd (omega (arith, leb-true 3 (length s) (every-at _ 0 e)))
+    go true e (inr (inl w)) = absurd (omega (arith, leb-true 1 (octet s 1 * 256 + octet s 2) (every-at _ 1 e)))
+    go true e (inr (inr w)) = absurd (omega (arith, leb-true (3 + (octet s 1 * 256 + octet s 2)) (length s) (every-at _ 2 e)))
+
+length-right : (m s : List ℕ) → Measured m s → lengthRight s ≡ true
+unfolding lengthRight lengthField at16 every
+length-right m s l = simp (le-leb 3 (length s) (l .there), le-leb 1 (octet s 1 * 256 + octet s 2) (l .notZero), le-leb (3 + (octet s 1 * 256 + octet s 2)) (length s) (l .inside))
+
+-- a reply that does not fit
+not-fitting : (n : ℕ) (m : List ℕ) (os : List Op) → (Fits n (records m os) → ⊥) → fits n (carriedOut m os) ≡ false
+not-fitting n m os no-fit = go (fits n (carriedOut m os)) refl
+  where
+    go : (b : Bool) → fits n (carriedOut m os) ≡ b → fits n (carriedOut m os) ≡ false
+    go true e = absurd (no-fit (fits-opened n m os e))
+    go false e = e
+
+module _ (m s room : List ℕ) where
+  first-is : (n : ℕ) → firstFailed (messageChecks m s (length room)) ≡ suc n → message m s room ≡ told (suc n) m room
+  unfolding message
+  first-is n e = refuses (messageChecks m s (length room)) _ m room n e
+
+  pub message-1 : sound m ≡ false → message m s room ≡ told 1 m room
+  unfolding messageChecks firstFailed
+  message-1 e = first-is 0 (simp e)
+
+  pub message-2 : sound m ≡ true → length s ≡ 0 → message m s room ≡ told 2 m room
+  unfolding messageChecks firstFailed
+  message-2 e h = first-is 1 (simp (e, h))
+
+  pub message-3 : sound m ≡ true → 2048 < length s → message m s room ≡ told 3 m room
+  unfolding messageChecks firstFailed
+  message-3 e h = first-is 2 (simp (e, le-leb 1 (length s) (omega arith), lt-leb (length s) 2048 h))
+
+  -- the checks that are left once a message is taken
+  abbrev rest : Checks
+  rest =
+      check 4 (isCommand s || isAcknowledgement s)
+      (check 5 (implies (isCommand s) (lengthRight s))
+      (check 6 (implies (isCommand s) (isSome (parse (operations s))))
+      (check 8 (implies (isAcknowledgement s) (waiting m))
+      (check 7 (fits (length room) (deed m s)) passed))))
+
+  rest-is : (n : ℕ) → Taken m s → firstFailed rest ≡ suc n → message m s room ≡ told (suc n) m room
+  unfolding messageChecks firstFailed
+  rest-is n t e = first-is n (simp (t .isSound, le-leb 1 (length s) (t .nonzero), le-leb (length s) 2048 (t .short)) e)
+
+  pub message-4 : Taken m s → octet s 0 ≢ 1 → octet s 0 ≢ 4 → message m s room ≡ told 4 m room
+  unfolding firstFailed isCommand isAcknowledgement
+  message-4 t a b = rest-is 3 t (simp (ne-eqb (octet s 0) 1 a, ne-eqb (octet s 0) 4 b))
+
+  pub message-5 : Taken m s → octet s 0 ≡ 1 → WrongLength s → message m s room ≡ told 5 m room
+  unfolding firstFailed isCommand implies
+  message-5 t a d = rest-is 4 t (simp (eq-eqb (octet s 0) 1 a, length-wrong s d))
+
+  pub message-6 : Measured m s → parse (operations s) ≡ none → message m s room ≡ told 6 m room
+  unfolding firstFailed isCommand implies
+  message-6 l e = rest-is 5 (l .taken) (simp (eq-eqb (octet s 0) 1 (l .type), length-right m s l, e))
+
+  pub message-7 : (os : List Op) → Measured m s → parse (operations s) ≡ some os → (Fits (length room) (records m os) → ⊥) → message m s room ≡ told 7 m room
+  unfolding firstFailed isCommand isAcknowledgement implies deed
+  message-7 os l e no-fit =
+      rest-is 6 (l .taken)
+      (simp (
+        l .type,
+        length-right m s l,
+        e,
+        ops-parsed s os e,
+        not-fitting (length room) m os no-fit,
+      ))
+
+  pub message-8 : Taken m s → octet s 0 ≡ 4 → waiting m ≡ false → message m s room ≡ told 8 m room
+  unfolding firstFailed isCommand isAcknowledgement implies
+  message-8 t a w = rest-is 7 t (simp (a, w))
+
+  -- an acknowledgement whose reply has no room
+  pub message-7-acknowledged : Taken m s → octet s 0 ≡ 4 → waiting m ≡ true → length room ≡ 0 → message m s room ≡ told 7 m room
+  unfolding firstFailed isCommand isAcknowledgement implies deed acknowledged fits every
+  message-7-acknowledged t a w h = rest-is 6 t (simp (a, w, h))
+
+-- ---- building: 1, 11, 10, 9
+
+module _ (m room : List ℕ) where
+  build-is : (n : ℕ) → firstFailed (buildChecks m (length room)) ≡ suc n → build m room ≡ told (suc n) m room
+  unfolding build
+  build-is n e = refuses (buildChecks m (length room)) _ m room n e
+
+  pub build-1 : sound m ≡ false → build m room ≡ told 1 m room
+  unfolding buildChecks firstFailed
+  build-1 e = build-is 0 (simp e)
+
+  pub build-11 : sound m ≡ true → length room < 1600 → build m room ≡ told 11 m room
+  unfolding buildChecks firstFailed
+  build-11 e h = build-is 10 (simp (e, lt-leb 1600 (length room) h))
+
+  pub build-10 : sound m ≡ true → 1600 ≤ length room → waiting m ≡ true → build m room ≡ told 10 m room
+  unfolding buildChecks firstFailed
+  build-10 e h w = build-is 9 (simp (e, le-leb 1600 (length room) h, w))
+
+  pub build-9 : sound m ≡ true → 1600 ≤ length room → waiting m ≡ false → ((k : ℕ) → k < entryCount → pending m k ≡ false) → build m room ≡ told 9 m room
+  unfolding buildChecks firstFailed
+  build-9 e h w p = build-is 8 (simp (e, le-leb 1600 (length room) h, w, no-reports m entryCount p))
+
+-- ---- a local value: 1, 12. An expiry: 1, 8. Making fresh: 1 by length only
+
+pub localValue-1 : (m : List ℕ) (n : ℕ) (v : List ℕ) → sound m ≡ false → localValue m n v ≡ told 1 m []
+unfolding localValue localChecks firstFailed
+localValue-1 m n v e = refuses (localChecks m n v) _ m [] 0 (simp e)
+
+pub localValue-12 : (m : List ℕ) (n : ℕ) (v : List ℕ) → sound m ≡ true → localPermitted n v ≡ false → localValue m n v ≡ told 12 m []
+unfolding localValue localChecks firstFailed
+localValue-12 m n v e p = refuses (localChecks m n v) _ m [] 11 (simp (e, p))
+
+pub expiry-1 : (m : List ℕ) → sound m ≡ false → expiry m ≡ told 1 m []
+unfolding expiry expiryChecks firstFailed
+expiry-1 m e = refuses (expiryChecks m) _ m [] 0 (simp e)
+
+pub expiry-8 : (m : List ℕ) → sound m ≡ true → waiting m ≡ false → expiry m ≡ told 8 m []
+unfolding expiry expiryChecks firstFailed
+expiry-8 m e w = refuses (expiryChecks m) _ m [] 7 (simp (e, w))
+
+pub makeFresh-1 : (m : List ℕ) → length m ≢ memoryLength → makeFresh m ≡ told 1 m []
+unfolding makeFresh firstFailed
+makeFresh-1 m h = refuses _ _ m [] 0 (simp (ne-eqb _ _ h))
