@@ -1,0 +1,2 @@
+-- Laws of the octets that the functions write and read.
+pub mod Spelt
