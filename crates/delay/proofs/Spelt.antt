@@ -7,7 +7,7 @@ use mathlib.Core.List.{List, [], _∷_}
 use lib.ListN.{length, getD, drop, drop-of-length-le}
 use lib.Seq.{drop-cons}
 use Rattle.meaning.specs.Delay.{lowFirst, lowNumber}
-use Rattle.meaning.proofs.Lists.{Octets}
+use Rattle.meaning.proofs.Lists.{octets-each}
 use Rattle.meaning.proofs.Delays.{number-fits}
 
 pub eight-written : (u : ℕ) {a b c d e f g h : ℕ}
@@ -41,10 +41,6 @@ unfolding lowNumber
 tail-at-most s zero = omega arith
 tail-at-most [] (suc i) = omega arith
 tail-at-most (x ∷ s) (suc i) = omega (arith, tail-at-most s i)
-
-octets-each : (s : List ℕ) → ((i : ℕ) → getD s i 0 < 256) → Octets s
-octets-each [] g = tt
-octets-each (x ∷ s) g = (g 0, octets-each s (λ i. g (suc i)))
 
 -- so no number on the way is too large for 64 bits
 pub read-fits : (s : List ℕ) → length s ≡ 8 → ((i : ℕ) → getD s i 0 < 256) → (i : ℕ) → lowNumber (drop i s) < 2 ^ 64

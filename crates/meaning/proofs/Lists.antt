@@ -40,6 +40,10 @@ each-drop P zero s f = f
 each-drop P (suc n) [] f = f
 each-drop P (suc n) (x ∷ s) f = each-drop P n s (f .1)
 
+pub octets-each : (s : List ℕ) → ((i : ℕ) → octet s i < 256) → Octets s
+octets-each [] h = tt
+octets-each (x ∷ s) h = (h 0, octets-each s (λ i. h (suc i)))
+
 pub octets-part : (s : List ℕ) (i n : ℕ) → Octets s → Octets (part s i n)
 unfolding part
 octets-part s i n o = each-take (λ x. x < 256) n (drop i s) (each-drop (λ x. x < 256) i s o)

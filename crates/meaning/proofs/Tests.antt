@@ -2,9 +2,9 @@
 use Prim.Native.Nat.{ℕ, zero, suc, _<_}
 use native.Mathlib.Omega.{arith}
 use native.Mathlib.Decide.{ℕ-discrete}
-use mathlib.Core.Path.{_≡_, refl, ap, _∙_}
+use mathlib.Core.Path.{_≡_, refl, sym, ap, _∙_}
 use mathlib.Core.Logic.{_⊎_, inl, inr}
-use mathlib.Core.Bool.{Bool, true, false, _&&_, _||_, false≢true}
+use mathlib.Core.Bool.{Bool, true, false, _&&_, _||_, not, false≢true}
 use mathlib.Core.List.{List, [], _∷_}
 use lib.ListN.{getD}
 use lib.Dec.{eqb}
@@ -28,6 +28,26 @@ and-both e f = rw (e, f)
 pub or-cases : (a b : Bool) → (a || b) ≡ true → (a ≡ true) ⊎ (b ≡ true)
 or-cases true b e = inl refl
 or-cases false b e = inr e
+
+-- two tests, each of which passes where the other does
+pub alike : (a b : Bool) → (a ≡ true → b ≡ true) → (b ≡ true → a ≡ true) → a ≡ b
+alike true b f g = sym (f refl)
+alike false true f g = g refl
+alike false false f g = refl
+
+-- a test that cannot pass
+pub not-true : (b : Bool) → (b ≡ true → ⊥) → b ≡ false
+not-true true f = absurd (f refl)
+not-true false f = refl
+
+-- what a test of the contrary says
+pub denied : (b : Bool) → not b ≡ true → b ≡ false
+denied true e = sym e
+denied false e = refl
+
+pub affirmed : (b : Bool) → not b ≡ false → b ≡ true
+affirmed true e = refl
+affirmed false e = sym e
 
 pub implies-of : (a b : Bool) → (a ≡ true → b ≡ true) → implies a b ≡ true
 unfolding implies

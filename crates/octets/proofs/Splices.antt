@@ -2,12 +2,12 @@
 use Prim.Native.Nat.{ℕ, _+_, _-_, _≤_}
 use native.Mathlib.Omega.{arith}
 use native.Mathlib.Numerals.{add-one}
-use mathlib.Core.Path.{_≡_, sym, ap, _∙_}
+use mathlib.Core.Path.{_≡_, refl, sym, ap, _∙_}
 use mathlib.Core.List.{List, [], _∷_, _++_, append-assoc, append-nil}
 use lib.ListN.{length, take, drop, set, length-append, take-append-drop, drop-of-length-le}
 use lib.Seq.{take-at, drop-append-add, drop-drop, length-take-le, take-length, sets-eq}
 use borrow.Rule.Slice.PartMut.{putMid, post-is}
-use Rattle.meaning.specs.Octets.{splice}
+use Rattle.meaning.specs.Octets.{part, splice}
 
 -- nothing written is no change
 pub splice-nil : (s : List ℕ) (i : ℕ) → splice s i [] ≡ s
@@ -15,6 +15,18 @@ unfolding splice
 splice-nil s i =
     let e : i + 0 ≡ i = omega arith in
     rw e (take-append-drop i s)
+
+-- as many octets written as there are: nothing is left of the old ones
+pub splice-all : (s v : List ℕ) → length v ≡ length s → splice s 0 v ≡ v
+unfolding splice
+splice-all s v h =
+    let k : length s ≤ 0 + length v = omega arith in
+    rw (drop-of-length-le s k, append-nil)
+
+-- octets written at the start, read back
+pub splice-front : (s v : List ℕ) → take (length v) (splice s 0 v) ≡ v
+unfolding splice
+splice-front s v = take-at v (drop (0 + length v) s) (length v) refl
 
 -- two octets stored, the second behind the first
 pub two-stores : (s : List ℕ) (i a b : ℕ) → i + 2 ≤ length s → set (set s i a) (i + 1) b ≡ splice s i (a ∷ b ∷ [])
@@ -42,6 +54,13 @@ splice-splice s a b i h =
 -- the same for what two calls leave
 pub then : (s a b : List ℕ) (i p : ℕ) {s₁ s₂ : List ℕ} → i + length a ≤ length s → p ≡ i + length a → s₁ ≡ splice s i a → s₂ ≡ splice s₁ p b → s₂ ≡ splice s i (a ++ b)
 then s a b i p h e e₁ e₂ = rw (e₂, e₁, e) (splice-splice s a b i h)
+
+-- a part as it is lent
+pub part-is : (s : List ℕ) (a n : ℕ) → take (a + n - a) (drop a s) ≡ part s a n
+unfolding part
+part-is s a n =
+    let e : a + n - a ≡ n = omega arith in
+    rw e
 
 -- a part that was lent comes back: the octets with the part's new ones in them
 pub lent-back : (m ys : List ℕ) (a e : ℕ) → a ≤ e → length ys ≡ e - a → putMid a (e - a) m ys ≡ splice m a ys

@@ -50,7 +50,7 @@ pub fn put32(s: &mut [u8], at: usize, v: usize)
 }
 
 // Zeros from a place to the end.
-fn clear_from(room: &mut [u8], at: usize)
+pub fn clear_from(room: &mut [u8], at: usize)
     requires { ⌜ at ≤ length (now room) ⌝ }
     ensures { λ _. ⌜ now (room .exit) ≡ take at (now (room .entry)) ++ zeros (length (now (room .entry)) - at) ⌝ }
 {

@@ -1,0 +1,162 @@
+-- Blocks: the length of joined values, the sums that a value of 4 octets spells.
+use Prim.Native.Nat.{ℕ, _+_, _-_, _/_, _%_, _<_, _≤_}
+use native.Mathlib.Omega.{arith}
+use mathlib.Core.Path.{_≡_, refl, sym, ap, _∙_}
+use mathlib.Core.Bool.{Bool, true, false, _&&_, and-true}
+use mathlib.Core.List.{List, [], _∷_, _++_, append-assoc}
+use lib.ListN.{length, take, drop, length-append, length-drop, take-append-drop}
+use lib.Seq.{take-all, drop-drop}
+use lib.Dec.{eqb, leb}
+use borrow.Author.Tests.{eqb-true, eq-eqb, leb-true, le-leb}
+use Rattle.meaning.specs.Octets.{octet, at16, be16, splice, every, same}
+use Rattle.meaning.specs.Block.{number, timeOk, entriesOf, eachOk, listOk, intervals, ratioOk, cycle, sumsOf, sums, joinedBlock, formAndFit}
+use Rattle.meaning.proofs.Lists.{be16-at16}
+use Rattle.meaning.proofs.Sums.{first-sum, second-sum, first-shown, second-shown}
+use Rattle.meaning.proofs.Tests.{and-left, and-right, and-both, every-at, alike, same-true, same-refl}
+use Rattle.meaning.proofs.Commit.{form-joined}
+use Rattle.octets.proofs.Splices.{then}
+
+pub joined-length : (b c l r : List ℕ) → length (joinedBlock b c l r) ≡ length b + length c + length l + length r
+unfolding joinedBlock
+joined-length b c l r = omega (arith, length-append b (c ++ (l ++ r)), length-append c (l ++ r), length-append l r)
+
+-- four values written one behind another are the block
+pub joined-writes : (block b c l r : List ℕ) (p q t : ℕ) {s₁ s₂ s₃ s₄ : List ℕ} → length (joinedBlock b c l r) ≤ length block
+    → p ≡ 0 + length b → q ≡ p + length c → t ≡ q + length l
+    → s₁ ≡ splice block 0 b → s₂ ≡ splice s₁ p c → s₃ ≡ splice s₂ q l → s₄ ≡ splice s₃ t r → s₄ ≡ splice block 0 (joinedBlock b c l r)
+unfolding joinedBlock
+joined-writes block b c l r p q t h hp hq ht e₁ e₂ e₃ e₄ =
+    let n = joined-length b c l r in
+    let n₂ = length-append b c in
+    let n₃ = length-append (b ++ c) l in
+    let a₂ = then block b c 0 p (omega (arith, n, h)) hp e₁ e₂ in
+    let a₃ = then block (b ++ c) l 0 q (omega (arith, n, h, n₂)) (omega (arith, n₂, hp, hq)) a₂ e₃ in
+    then block (b ++ c ++ l) r 0 t (omega (arith, n, h, n₂, n₃)) (omega (arith, n₂, n₃, hp, hq, ht)) a₃ e₄
+    ∙ ap (splice block 0) (append-assoc (b ++ c) l r ∙ append-assoc b c (l ++ r))
+
+-- four octets are those of the two numbers that they spell
+four-spelt : (v : List ℕ) → length v ≡ 4 → ((i : ℕ) → octet v i < 256) → v ≡ be16 (at16 v 0) ++ be16 (at16 v 2)
+unfolding at16
+four-spelt [] h o = absurd (omega (arith, h))
+four-spelt (a ∷ []) h o = absurd (omega (arith, h))
+four-spelt (a ∷ b ∷ []) h o = absurd (omega (arith, h))
+four-spelt (a ∷ b ∷ c ∷ []) h o = absurd (omega (arith, h))
+four-spelt (a ∷ b ∷ c ∷ d ∷ []) h o = rw (be16-at16 a b (o 0) (o 1), be16-at16 c d (o 2) (o 3))
+four-spelt (a ∷ b ∷ c ∷ d ∷ e ∷ v) h o = absurd (omega (arith, h))
+
+sums-octets : (b : List ℕ) → sums b ≡ be16 (sumsOf b .first) ++ be16 (sumsOf b .second)
+unfolding sums
+sums-octets b = refl
+
+-- the two numbers of a value agree with the sums exactly where its octets do
+pub sums-spelt : (v b : List ℕ) → length v ≡ 4 → ((i : ℕ) → octet v i < 256) → (eqb (at16 v 0) (sumsOf b .first) && eqb (at16 v 2) (sumsOf b .second)) ≡ same v (sums b)
+sums-spelt v b h o =
+    let p = sumsOf b .first in
+    let q = sumsOf b .second in
+    alike (eqb (at16 v 0) p && eqb (at16 v 2) q) (same v (sums b))
+    (λ e.
+    let x = eqb-true (at16 v 0) p (and-left _ _ e) in
+    let y = eqb-true (at16 v 2) q (and-right (eqb (at16 v 0) p) _ e) in
+    let z : v ≡ sums b = four-spelt v h o ∙ rw (x, y) (sym (sums-octets b)) in
+    rw z (same-refl (sums b)))
+    (λ e.
+    let z = same-true v (sums b) e in
+    and-both
+    (eq-eqb _ _ (ap (λ (w : List ℕ). at16 w 0) z ∙ first-shown b ∙ sym (first-sum b)))
+    (eq-eqb _ _ (ap (λ (w : List ℕ). at16 w 2) z ∙ second-shown b ∙ sym (second-sum b))))
+
+-- ---- form and fit of a block by its four values
+
+pub record Fit (b c l r : List ℕ) : Type 0 where
+  pub time : timeOk b ≡ true
+  pub held : eqb (number c) (length l / 7) ≡ true
+  pub whole : eqb (length l % 7) 0 ≡ true
+  pub each : eachOk (entriesOf l) ≡ true
+  pub fits : leb (intervals (entriesOf l)) (cycle r) ≡ true
+  pub denominator : ratioOk r ≡ true
+  pub least : 1 ≤ length l / 7
+  pub most : length l / 7 ≤ 64
+
+module _ (b c l r : List ℕ) (hb : length b ≡ 10) (hc : length c ≡ 4) (hr : length r ≡ 8) where
+  pub fit-opened : formAndFit (joinedBlock b c l r) ≡ true → Fit b c l r
+  unfolding listOk
+  fit-opened e =
+      let f = sym (form-joined b c l r hb hc hr) ∙ e in
+      let n : number c ≡ length l / 7 = eqb-true _ _ (every-at _ 5 f) in
+      let k : number c ≤ 64 = leb-true _ _ (every-at _ 2 f) in
+      let w : (eqb (length l % 7) 0 && eachOk (entriesOf l)) ≡ true = every-at _ 3 f in
+      record {
+        time = every-at _ 1 f;
+        held = every-at _ 5 f;
+        whole = and-left _ _ w;
+        each = and-right (eqb (length l % 7) 0) _ w;
+        fits = every-at _ 7 f;
+        denominator = every-at _ 4 f;
+        least = leb-true _ _ (every-at _ 6 f);
+        most = omega arith;
+      }
+
+  pub fit-closed : Fit b c l r → formAndFit (joinedBlock b c l r) ≡ true
+  unfolding every listOk
+  fit-closed f =
+      form-joined b c l r hb hc hr
+      ∙ simp (
+        le-leb 22 (22 + length l) (omega arith),
+        f .time,
+        le-leb (number c) 64 (omega (arith, eqb-true (number c) (length l / 7) (f .held), f .most)),
+        f .whole,
+        f .each,
+        f .denominator,
+        f .held,
+        le-leb _ _ (f .least),
+        f .fits,
+      )
+
+  -- without what is known of the length and the denominator
+  pub fit-tests : ratioOk r ≡ true → 1 ≤ length l / 7 → length l / 7 ≤ 64
+      → (timeOk b && (eqb (number c) (length l / 7) && (eqb (length l % 7) 0 && (eachOk (entriesOf l) && leb (intervals (entriesOf l)) (cycle r))))) ≡ formAndFit (joinedBlock b c l r)
+  fit-tests d least most =
+      alike _ (formAndFit (joinedBlock b c l r))
+      (λ e.
+      let e₁ = and-right (timeOk b) _ e in
+      let e₂ = and-right (eqb (number c) (length l / 7)) _ e₁ in
+      let e₃ = and-right (eqb (length l % 7) 0) _ e₂ in
+      fit-closed record {
+        time = and-left _ _ e;
+        held = and-left _ _ e₁;
+        whole = and-left _ _ e₂;
+        each = and-left _ _ e₃;
+        fits = and-right (eachOk (entriesOf l)) _ e₃;
+        denominator = d;
+        least = least;
+        most = most;
+      })
+      (λ e.
+      let f = fit-opened e in
+      and-both (f .time) (and-both (f .held) (and-both (f .whole) (and-both (f .each) (f .fits)))))
+
+-- ---- a block cut into its four values
+
+pub split-joined : (b : List ℕ) → 22 ≤ length b
+    → joinedBlock (take 10 b) (take (14 - 10) (drop 10 b)) (take (length b - 8 - 14) (drop 14 b)) (take (length b - (length b - 8)) (drop (length b - 8) b)) ≡ b
+unfolding joinedBlock
+split-joined b h =
+    let n = length b in
+    let e₁ : 10 + 4 ≡ 14 = refl in
+    let e₂ : 14 + (n - 8 - 14) ≡ n - 8 = omega arith in
+    let last : take (n - (n - 8)) (drop (n - 8) b) ≡ drop (n - 8) b =
+    take-all (n - (n - 8)) (drop (n - 8) b) (simp length-drop (omega arith)) in
+    let d₃ : take (n - 8 - 14) (drop 14 b) ++ drop (n - 8) b ≡ drop 14 b =
+    ap (λ (t : List ℕ). take (n - 8 - 14) (drop 14 b) ++ t) (sym (drop-drop (n - 8 - 14) 14 b ∙ ap (λ (k : ℕ). drop k b) e₂))
+    ∙ take-append-drop (n - 8 - 14) (drop 14 b) in
+    let d₂ : take 4 (drop 10 b) ++ drop 14 b ≡ drop 10 b =
+    ap (λ (t : List ℕ). take 4 (drop 10 b) ++ t) (sym (drop-drop 4 10 b)) ∙ take-append-drop 4 (drop 10 b) in
+    rw (last, d₃, d₂) (take-append-drop 10 b)
+
+-- ---- a commit
+
+pub in-order : (a b c : Bool) → (a && (b && c)) ≡ (b && (a && (c && true)))
+in-order true true c = sym (and-true c)
+in-order true false c = refl
+in-order false true c = refl
+in-order false false c = refl

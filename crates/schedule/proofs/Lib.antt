@@ -1,0 +1,4 @@
+-- Laws that the functions' proofs cite.
+pub mod Values
+pub mod Walks
+pub mod Blocks

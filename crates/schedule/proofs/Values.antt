@@ -1,0 +1,32 @@
+-- Values of a known length: the numbers that they spell.
+use Prim.Native.Nat.{ℕ}
+use native.Mathlib.Omega.{arith}
+use mathlib.Core.Path.{_≡_}
+use mathlib.Core.List.{List, [], _∷_}
+use mathlib.Core.Bool.{true, _||_}
+use mathlib.Core.Logic.{⊎-elim}
+use lib.ListN.{length}
+use lib.Dec.{eqb}
+use borrow.Author.Tests.{eqb-true}
+use Rattle.meaning.specs.Octets.{octet, at16, at32}
+use Rattle.meaning.specs.Block.{numberFrom, number}
+use Rattle.meaning.proofs.Tests.{or-cases}
+
+pub number-one : (v : List ℕ) → length v ≡ 1 → number v ≡ octet v 0
+unfolding number numberFrom
+number-one [] h = omega arith
+number-one (a ∷ []) h = omega arith
+number-one (a ∷ b ∷ v) h = absurd (omega (arith, h))
+
+pub number-four : (v : List ℕ) → length v ≡ 4 → number v ≡ at32 v 0
+unfolding number numberFrom at32 at16
+number-four [] h = omega arith
+number-four (a ∷ []) h = absurd (omega (arith, h))
+number-four (a ∷ b ∷ []) h = absurd (omega (arith, h))
+number-four (a ∷ b ∷ c ∷ []) h = absurd (omega (arith, h))
+number-four (a ∷ b ∷ c ∷ d ∷ []) h = omega arith
+number-four (a ∷ b ∷ c ∷ d ∷ e ∷ v) h = absurd (omega (arith, h))
+
+-- a length that is 1 or 4, and not 1
+pub four-left : (n : ℕ) → (eqb n 1 || eqb n 4) ≡ true → (n ≡ 1 → ⊥) → n ≡ 4
+four-left n h not-one = ⊎-elim (λ e. absurd (not-one (eqb-true n 1 e))) (λ e. eqb-true n 4 e) (or-cases (eqb n 1) (eqb n 4) h)

@@ -1,0 +1,15 @@
+-- `schedule::ratio_ok` meets its contract.
+use borrow.Author.Needs.{needs}
+use Rattle.meaning.specs.Block.{ratioOk}
+use Rattle.schedule.proofs.ratio_ok.Statement.{statement}
+use Rattle.schedule.proofs.ratio_ok.Tie as tie
+
+get32-requires : tie.Need-get32-requires
+get32-requires c κs = search needs
+
+returns : tie.Need-returns
+unfolding ratioOk
+returns c = rw (c .get32 .ensures .0)
+
+pub ratio-ok-spec : {M : Type 1} → statement M
+ratio-ok-spec = tie.close (tie.spec get32-requires returns)

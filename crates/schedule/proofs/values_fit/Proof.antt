@@ -1,0 +1,73 @@
+-- `schedule::values_fit` meets its contract.
+use native.Mathlib.Omega.{arith}
+use mathlib.Core.Path.{sym, _∙_}
+use mathlib.Core.Bool.{false≢true}
+use borrow.Author.Needs.{needs}
+use Rattle.meaning.proofs.Tests.{not-true, denied, affirmed}
+use Rattle.schedule.proofs.Blocks.{fit-opened, fit-tests}
+use Rattle.schedule.proofs.values_fit.Statement.{statement}
+use Rattle.schedule.proofs.values_fit.Tie as tie
+
+returns : tie.Need-returns
+returns c =
+    let s = c .before .before .before .before .before in
+    let a = s .args in
+    sym (not-true _ (λ e.
+    let f = fit-opened (a .base .now) (a .count .now) (a .list .now) (a .ratio .now) (s .pre .0) (s .pre .1) (s .pre .2) e in
+    omega (arith, f .least, c .if1 .taken)))
+
+returns-2 : tie.Need-returns-2
+returns-2 c =
+    let s = c .before .before .before .before .before .before in
+    let a = s .args in
+    sym (not-true _ (λ e.
+    let f = fit-opened (a .base .now) (a .count .now) (a .list .now) (a .ratio .now) (s .pre .0) (s .pre .1) (s .pre .2) e in
+    omega (arith, f .most, c .if2 .taken)))
+
+ratio-ok-requires : tie.Need-ratio-ok-requires
+ratio-ok-requires c κs = search needs
+
+returns-3 : tie.Need-returns-3
+returns-3 c =
+    let s = c .before .before .before .before .before .before .before .before in
+    let a = s .args in
+    sym (not-true _ (λ e.
+    let f = fit-opened (a .base .now) (a .count .now) (a .list .now) (a .ratio .now) (s .pre .0) (s .pre .1) (s .pre .2) e in
+    false≢true (sym (denied _ (c .if3 .taken)) ∙ c .before .ratio-ok .ensures ∙ f .denominator)))
+
+walk-requires : tie.Need-walk-requires
+walk-requires c κs = search needs
+
+number-requires : tie.Need-number-requires
+number-requires c κs = rw (c .before .before .before .before .before .before .before .before .before .pre .1)
+
+time-ok-requires : tie.Need-time-ok-requires
+time-ok-requires c κs = search needs
+
+fits-cycle-requires : tie.Need-fits-cycle-requires
+fits-cycle-requires c κs =
+    let k = c .before .before .before in
+    (search needs, sym (k .before .ratio-ok .ensures) ∙ affirmed _ (k .if3 .left))
+
+returns-4 : tie.Need-returns-4
+returns-4 c =
+    let s = c .before .before .before .before .before .before .before .before .before .before .before .before .before in
+    let a = s .args in
+    let k = c .before .before .before .before .before in
+    let d = sym (k .before .ratio-ok .ensures) ∙ affirmed _ (k .if3 .left) in
+    rw (c .before .before .time-ok .ensures, c .before .before .before .number .ensures .0, c .before .before .before .before .walk .ensures .0, c .before .fits-cycle .ensures, c .before .before .before .before .walk .ensures .1)
+    (fit-tests (a .base .now) (a .count .now) (a .list .now) (a .ratio .now) (s .pre .0) (s .pre .1) (s .pre .2) d (k .before .before .before .if1 .left) (k .before .before .if2 .left))
+
+pub values-fit-spec : {M : Type 1} → statement M
+values-fit-spec =
+    tie.close
+    (tie.spec
+    returns
+    returns-2
+    ratio-ok-requires
+    returns-3
+    walk-requires
+    number-requires
+    time-ok-requires
+    fits-cycle-requires
+    returns-4)

@@ -1,0 +1,2 @@
+-- What the contracts of `schedule` cite beside `meaning`.
+pub mod Rules

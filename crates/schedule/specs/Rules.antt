@@ -1,0 +1,33 @@
+-- The rules of the code's enum as those of the table, the lengths at which a rule is asked, and a commit's conditions on a block.
+use Prim.Native.Nat.{ℕ}
+use mathlib.Core.Bool.{Bool, true, _||_}
+use mathlib.Core.List.{List, [], _∷_}
+use lib.ListN.{length}
+use lib.Dec.{eqb, leb}
+use Rattle.meaning.specs.Octets.{same, every}
+use Rattle.meaning.specs.Table.{free, within, time, entries, ratio, running}
+use Rattle.meaning.specs.Table as table
+use Rattle.meaning.specs.Block.{formAndFit, sums}
+use Rattle.schedule.specs.declared.Rule.{Rule}
+use Rattle.schedule.specs.declared.Rule.the-variants.{Free, Within, Time, Entries, Ratio, Running}
+
+unfoldable pub ruleOf : Rule → table.Rule
+ruleOf Free = free
+ruleOf (Within a b) = within a b
+ruleOf Time = time
+ruleOf Entries = entries
+ruleOf Ratio = ratio
+ruleOf Running = running
+
+-- a rule is asked of values of the lengths that its rows permit
+unfoldable pub asked : table.Rule → ℕ → Bool
+asked free n = true
+asked (within a b) n = eqb n 1 || eqb n 4
+asked time n = eqb n 10
+asked entries n = leb n 448
+asked ratio n = eqb n 8
+asked running n = true
+
+-- what a commit asks of a block and a value, the four values being present
+unfoldable pub agrees : List ℕ → List ℕ → Bool
+agrees b v = every (eqb (length v) 4 ∷ formAndFit b ∷ same v (sums b) ∷ [])
