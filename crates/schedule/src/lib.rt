@@ -1,12 +1,11 @@
 // Schedules: the value rule of each parameter, the two sums over a block, its form and fit, a commit's conditions.
 // A block is the values of 0004, 0005, 0006 and 0007 joined; every answer is that of a definition of `meaning`.
-ghost use Prim.Native.Nat.{_+_, _-_, _*_, _/_, _≤_, _<_};
+ghost use Prim.Native.Nat.{_+_, _/_, _≤_, _<_};
 ghost use mathlib.Core.Path.{_≡_};
 ghost use mathlib.Core.Bool.{true, _&&_, _||_};
-ghost use mathlib.Core.List.{[], _∷_};
-ghost use lib.ListN.{length, take, drop};
+ghost use lib.ListN.{length};
 ghost use lib.Dec.{eqb, leb};
-ghost use Rattle.meaning.specs.Octets.{splice, same, every};
+ghost use Rattle.meaning.specs.Octets.{splice, same};
 ghost use Rattle.meaning.specs.Block.{number, timeOk, entryOk, entriesOf, eachOk, listOk, intervals, ratioOk, cycle, sumsOf, sums, joinedBlock, formAndFit, keeps};
 ghost use Rattle.schedule.specs.Rules.{ruleOf, asked, agrees};
 

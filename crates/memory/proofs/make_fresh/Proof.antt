@@ -1,0 +1,48 @@
+-- `memory::make_fresh` meets its contract.
+use native.Mathlib.Omega.{arith}
+use borrow.Author.Needs.{needs}
+use Rattle.meaning.specs.Table.{rows, rowAt}
+use Rattle.memory.proofs.Cells.{fresh-made}
+use Rattle.memory.proofs.make_fresh.Statement.{statement}
+use Rattle.memory.proofs.make_fresh.Tie as tie
+
+clear-from-requires : tie.Need-clear-from-requires
+clear-from-requires c κs = search needs
+
+name-cells-requires : tie.Need-name-cells-requires
+name-cells-requires c κs = search needs
+
+slice-aggregate-put : tie.Need-slice-aggregate-put
+slice-aggregate-put c = search needs
+
+put-requires : tie.Need-put-requires
+unfolding rowAt rows
+put-requires c κs = (search needs, omega arith, omega arith)
+
+slice-aggregate-put-2 : tie.Need-slice-aggregate-put-2
+slice-aggregate-put-2 c = search needs
+
+put-requires-2 : tie.Need-put-requires-2
+unfolding rowAt rows
+put-requires-2 c κs = (search needs, omega arith, omega arith)
+
+same-length : tie.Need-same-length
+same-length c = search needs
+
+returns : tie.Need-returns
+returns c =
+    let s = c .before .before .before .before .before .before .before .before .before .before .before .before .before .before .before .before .before .before .before in
+    fresh-made (s .args .m .now) (s .pre) (c .before .before .before .before .before .before .before .before .before .before .before .before .before .before .before .before .clear-from .ensures) (c .before .before .before .before .before .before .before .before .before .before .before .before .name-cells .ensures) (c .before .before .before .before .before .before .before .put .ensures) (c .before .before .put2 .ensures)
+
+pub make-fresh-spec : {M : Type 1} → statement M
+make-fresh-spec =
+    tie.close
+    (tie.spec
+    clear-from-requires
+    name-cells-requires
+    slice-aggregate-put
+    put-requires
+    slice-aggregate-put-2
+    put-requires-2
+    same-length
+    returns)

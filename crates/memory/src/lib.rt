@@ -1,0 +1,233 @@
+// Port memory: an entry read, an entry replaced in its own room, the timer's octets, fresh memory.
+// Every answer and every octet left behind is that of a definition of `meaning`.
+ghost use Prim.Native.Nat.{_≤_, _<_};
+ghost use mathlib.Core.Path.{_≡_};
+ghost use mathlib.Core.List.{_∷_, _++_};
+ghost use lib.ListN.{length};
+ghost use Rattle.meaning.specs.Octets.{be16};
+ghost use Rattle.meaning.specs.Table.{entryCount, memoryLength, rowAt};
+ghost use Rattle.meaning.specs.Memory.{cell, room, isPresent, isSubscribed, isPending, size, present, subscribed, pending, body, waiting, expiries, bit, flags, putCell, putRoom, put, store, remark, setClock, fourPresent, absent, fresh};
+
+// ---- what memory says of a parameter
+
+// The cell at a place.
+pub fn cell(m: &[u8], k: usize) -> &[u8]
+    requires { ⌜ (length (now m) ≡ memoryLength) × (k < entryCount) ⌝ }
+    ensures { λ r. ⌜ (now r ≡ cell (now (m .entry)) k) × (length (now r) ≡ 6) ⌝ }
+{
+    let at = 6 * k;
+    &m[at..at + 6]
+}
+
+// The room at a place.
+pub fn room(m: &[u8], k: usize) -> &[u8]
+    requires { ⌜ length (now m) ≡ memoryLength ⌝ }
+    ensures { λ r. ⌜ (now r ≡ room (now (m .entry)) k) × (length (now r) ≡ rowAt k .most) ⌝ }
+{
+    let row = table::row_at(k);
+    let start = row.start;
+    let end = start + row.most;
+    &m[start..end]
+}
+
+// The three flags of a cell.
+pub fn is_present(c: &[u8]) -> bool
+    requires { ⌜ length (now c) ≡ 6 ⌝ }
+    ensures { λ r. ⌜ r ≡ isPresent (now (c .entry)) ⌝ }
+{
+    c[2] % 2 == 1
+}
+
+pub fn is_subscribed(c: &[u8]) -> bool
+    requires { ⌜ length (now c) ≡ 6 ⌝ }
+    ensures { λ r. ⌜ r ≡ isSubscribed (now (c .entry)) ⌝ }
+{
+    c[2] / 2 % 2 == 1
+}
+
+pub fn is_pending(c: &[u8]) -> bool
+    requires { ⌜ length (now c) ≡ 6 ⌝ }
+    ensures { λ r. ⌜ r ≡ isPending (now (c .entry)) ⌝ }
+{
+    c[2] / 4 % 2 == 1
+}
+
+// The length that a cell gives.
+pub fn size(c: &[u8]) -> usize
+    requires { ⌜ length (now c) ≡ 6 ⌝ }
+    ensures { λ r. ⌜ (r ≡ size (now (c .entry))) × (r < 65536) ⌝ }
+{
+    octets::get16(c, 4)
+}
+
+// Whether the value at a place is present.
+pub fn present(m: &[u8], k: usize) -> bool
+    requires { ⌜ (length (now m) ≡ memoryLength) × (k < entryCount) ⌝ }
+    ensures { λ r. ⌜ r ≡ present (now (m .entry)) k ⌝ }
+{
+    is_present(cell(m, k))
+}
+
+// Whether changes at a place are to be reported.
+pub fn subscribed(m: &[u8], k: usize) -> bool
+    requires { ⌜ (length (now m) ≡ memoryLength) × (k < entryCount) ⌝ }
+    ensures { λ r. ⌜ r ≡ subscribed (now (m .entry)) k ⌝ }
+{
+    is_subscribed(cell(m, k))
+}
+
+// Whether a change at a place is still to be reported.
+pub fn pending(m: &[u8], k: usize) -> bool
+    requires { ⌜ (length (now m) ≡ memoryLength) × (k < entryCount) ⌝ }
+    ensures { λ r. ⌜ r ≡ pending (now (m .entry)) k ⌝ }
+{
+    is_pending(cell(m, k))
+}
+
+// The value at a place, a part of its room. A length past the room, which sound memory never has, gives the room.
+pub fn body(m: &[u8], k: usize) -> &[u8]
+    requires { ⌜ (length (now m) ≡ memoryLength) × (k < entryCount) ⌝ }
+    ensures { λ r. ⌜ now r ≡ body (now (m .entry)) k ⌝ }
+{
+    let n = size(cell(m, k));
+    let s = room(m, k);
+    if n < s.len() { &s[0..n] } else { s }
+}
+
+// Whether a notification waits for its acknowledgement.
+pub fn waiting(m: &[u8]) -> bool
+    requires { ⌜ length (now m) ≡ memoryLength ⌝ }
+    ensures { λ r. ⌜ r ≡ waiting (now (m .entry)) ⌝ }
+{
+    m[table::CLOCK_AT] == 1
+}
+
+// The expiries since it was built.
+pub fn expiries(m: &[u8]) -> u8
+    requires { ⌜ length (now m) ≡ memoryLength ⌝ }
+    ensures { λ r. ⌜ r ≡ expiries (now (m .entry)) ⌝ }
+{
+    m[table::EXPIRIES_AT]
+}
+
+// Whether 0004 to 0007 are all present.
+pub fn four_present(m: &[u8]) -> bool
+    requires { ⌜ length (now m) ≡ memoryLength ⌝ }
+    ensures { λ r. ⌜ r ≡ fourPresent (now (m .entry)) ⌝ }
+{
+    present(m, table::ADMIN_BASE_TIME)
+        & (present(m, table::ADMIN_CONTROL_LIST_LENGTH)
+            & (present(m, table::ADMIN_CONTROL_LIST) & present(m, table::ADMIN_CYCLE_TIME)))
+}
+
+// ---- changes
+
+// A flag's bit where it is set.
+fn bit(on: bool, n: u8) -> u8
+    ensures { λ r. ⌜ (r ≡ bit on n) × (r ≤ n) ⌝ }
+{
+    if on { n } else { 0 }
+}
+
+// The flags present, subscribed and pending as one octet.
+pub fn flags(present: bool, subscribed: bool, pending: bool) -> u8
+    ensures { λ r. ⌜ r ≡ flags present subscribed pending ⌝ }
+{
+    bit(present, 1) + bit(subscribed, 2) + bit(pending, 4)
+}
+
+// A cell's six octets.
+fn write_cell(c: &mut [u8], name: usize, f: u8, n: usize)
+    requires { ⌜ (length (now c) ≡ 6) × (name < 65536) × (n < 65536) ⌝ }
+    ensures { λ _. ⌜ now (c .exit) ≡ be16 name ++ (f ∷ 0 ∷ be16 n) ⌝ }
+{
+    octets::put16(c, 0, name);
+    c[2] = f;
+    c[3] = 0;
+    octets::put16(c, 4, n);
+}
+
+// Flags and length of the entry at a place.
+pub fn put_cell(m: &mut [u8], k: usize, f: u8, n: usize)
+    requires { ⌜ (length (now m) ≡ memoryLength) × (k < entryCount) × (n < 65536) ⌝ }
+    ensures { λ _. ⌜ now (m .exit) ≡ putCell (now (m .entry)) k f n ⌝ }
+{
+    let at = 6 * k;
+    let row = table::row_at(k);
+    write_cell(&mut m[at..at + 6], row.name, f, n);
+}
+
+// A value in its own room: the room is lent on and filled, its tail zeroed.
+fn put_room(m: &mut [u8], k: usize, v: &[u8])
+    requires { ⌜ (length (now m) ≡ memoryLength) × (length (now v) ≤ rowAt k .most) ⌝ }
+    ensures { λ _. ⌜ now (m .exit) ≡ putRoom (now (m .entry)) k (now (v .entry)) ⌝ }
+{
+    let row = table::row_at(k);
+    let start = row.start;
+    let end = start + row.most;
+    octets::fill(&mut m[start..end], v);
+}
+
+// An entry replaced: its flags, its length, its value.
+pub fn put(m: &mut [u8], k: usize, f: u8, v: &[u8])
+    requires { ⌜ (length (now m) ≡ memoryLength) × (k < entryCount) × (length (now v) ≤ rowAt k .most) ⌝ }
+    ensures { λ _. ⌜ now (m .exit) ≡ put (now (m .entry)) k f (now (v .entry)) ⌝ }
+{
+    put_cell(m, k, f, v.len());
+    put_room(m, k, v);
+}
+
+// A value made present, its marks as they were.
+pub fn store(m: &mut [u8], k: usize, v: &[u8])
+    requires { ⌜ (length (now m) ≡ memoryLength) × (k < entryCount) × (length (now v) ≤ rowAt k .most) ⌝ }
+    ensures { λ _. ⌜ now (m .exit) ≡ store (now (m .entry)) k (now (v .entry)) ⌝ }
+{
+    let s = subscribed(m, k);
+    let q = pending(m, k);
+    let f = flags(true, s, q);
+    put(m, k, f, v);
+}
+
+// Other marks, presence and value as they were.
+pub fn remark(m: &mut [u8], k: usize, s: bool, q: bool)
+    requires { ⌜ (length (now m) ≡ memoryLength) × (k < entryCount) ⌝ }
+    ensures { λ _. ⌜ now (m .exit) ≡ remark (now (m .entry)) k s q ⌝ }
+{
+    let f = flags(present(m, k), s, q);
+    let n = size(cell(m, k));
+    put_cell(m, k, f, n);
+}
+
+// The timer's two octets.
+pub fn set_clock(m: &mut [u8], waiting: u8, expiries: u8)
+    requires { ⌜ length (now m) ≡ memoryLength ⌝ }
+    ensures { λ _. ⌜ now (m .exit) ≡ setClock (now (m .entry)) waiting expiries ⌝ }
+{
+    m[table::CLOCK_AT] = waiting;
+    m[table::EXPIRIES_AT] = expiries;
+}
+
+// The 19 cells named, absent and unmarked.
+fn name_cells(m: &mut [u8])
+    requires { ⌜ length (now m) ≡ memoryLength ⌝ }
+    ensures { λ _. ⌜ now (m .exit) ≡ absent entryCount (now (m .entry)) ⌝ }
+{
+    let mut k: usize = 0;
+    while k < table::ENTRY_COUNT {
+        put_cell(m, k, 0, 0);
+        k += 1;
+    }
+}
+
+// Fresh memory.
+pub fn make_fresh(m: &mut [u8])
+    requires { ⌜ length (now m) ≡ memoryLength ⌝ }
+    ensures { λ _. ⌜ now (m .exit) ≡ fresh ⌝ }
+{
+    octets::clear_from(m, 0);
+    name_cells(m);
+    let off = [0u8; 1];
+    put(m, table::GATE_ENABLED, 1, &off);
+    let most = [0u8, 0, 0, 64];
+    put(m, table::SUPPORTED_LIST_MAX, 1, &most);
+}

@@ -1,0 +1,63 @@
+-- The tests as the code makes them: an entry without its tail, all entries and their tails, the whole memory.
+use Prim.Native.Nat.{ℕ, zero, suc, _+_, _-_, _≤_, _<_}
+use native.Mathlib.Omega.{arith}
+use native.Mathlib.Nat.{sub-zero}
+use native.Mathlib.Numerals.{add-one}
+use mathlib.Core.Path.{_≡_, refl, sym, ap}
+use mathlib.Core.Bool.{Bool, true, _&&_, cond, and-true, and-assoc, and-comm}
+use mathlib.Core.List.{List}
+use lib.ListN.{length, take}
+use lib.Seq.{length-take-le}
+use lib.Dec.{eqb}
+use borrow.Author.Tests.{eq-eqb, leb-true, le-leb}
+use Rattle.meaning.specs.Octets.{every, below}
+use Rattle.meaning.specs.Table.{Row, rowAt, entryCount}
+use Rattle.meaning.specs.Block.{permits}
+use Rattle.meaning.specs.Memory.{cell, room, isPresent, size, entrySound, entriesSound, sound}
+use Rattle.meaning.proofs.Tests.{every-at, below-at}
+use Rattle.soundness.specs.Fields.{cellSound, fieldsSound, fieldsAt, tailAt, allFields, allTails, acrossSound}
+
+pub below-more : (f : ℕ → Bool) (k : ℕ) → (below k f && f k) ≡ below (k + 1) f
+unfolding below
+below-more f k = rw add-one
+
+-- four tests, the first two and the last two exchanged in the middle
+crossed : (a b c d : Bool) → (a && b && (c && d)) ≡ (a && c && (b && d))
+crossed a b c d = rw (and-assoc a b (c && d), and-assoc a c (b && d)) (ap (λ (t : Bool). a && t) (rw (sym (and-assoc b c d), sym (and-assoc c b d), and-comm b c)))
+
+below-both : (f g : ℕ → Bool) (n : ℕ) → below n (λ k. f k && g k) ≡ (below n f && below n g)
+unfolding below
+below-both f g zero = refl
+below-both f g (suc n) = rw (below-both f g n) (crossed (below n f) (below n g) (f n) (g n))
+
+below-same : (f g : ℕ → Bool) → ((k : ℕ) → f k ≡ g k) → (n : ℕ) → below n f ≡ below n g
+unfolding below
+below-same f g e zero = refl
+below-same f g e (suc n) = rw (below-same f g e n, e n)
+
+-- an entry is sound: what it holds, and its tail
+entry-parts : (m : List ℕ) (k : ℕ) → entrySound (rowAt k) (cell m k) (room m k) ≡ (fieldsAt m k && tailAt m k)
+unfolding entrySound fieldsAt fieldsSound cellSound tailAt every
+entry-parts m k = simp (and-assoc, and-true)
+
+-- what an entry holds, from a value of n octets that is cut from its room
+pub fields-tests : (r : Row) (c s : List ℕ) (n : ℕ) → n ≡ size c → n ≤ length s → length s ≡ r .most
+    → (cellSound r c && cond (isPresent c) (permits r (take (n - 0) s)) (eqb (length (take (n - 0) s)) 0)) ≡ fieldsSound r c s
+unfolding fieldsSound every
+fields-tests r c s n e h l =
+    rw (sub-zero, length-take-le n s h, sym e, le-leb n (r .most) (omega arith), and-true)
+
+pub sound-parts : (m : List ℕ) → length m ≡ 2100 → (allFields m && (allTails m && acrossSound m)) ≡ sound m
+unfolding sound entriesSound allFields allTails acrossSound every
+sound-parts m h =
+    rw (
+      eq-eqb (length m) 2100 h,
+      below-same (λ k. entrySound (rowAt k) (cell m k) (room m k)) (λ k. fieldsAt m k && tailAt m k) (entry-parts m) entryCount,
+      below-both (fieldsAt m) (tailAt m) entryCount,
+    )
+    (simp and-assoc)
+
+-- where all entries hold what they must, no length passes its room
+pub fields-fit : (m : List ℕ) → allFields m ≡ true → (k : ℕ) → k < 19 → size (cell m k) ≤ rowAt k .most
+unfolding allFields fieldsAt fieldsSound
+fields-fit m e k h = leb-true _ _ (every-at _ 1 (below-at entryCount (fieldsAt m) e k h))

@@ -1,0 +1,92 @@
+-- `soundness::all_fields` meets its contract.
+use borrow.Author.Needs.{needs}
+use Rattle.meaning.specs.Octets.{below}
+use Rattle.soundness.specs.Fields.{allFields}
+use Rattle.soundness.proofs.all_fields.Statement.{statement}
+use Rattle.soundness.proofs.all_fields.Tie as tie
+
+fields-at-requires : tie.Need-fields-at-requires
+fields-at-requires c κs = search needs
+
+fields-at-requires-2 : tie.Need-fields-at-requires-2
+fields-at-requires-2 c κs = search needs
+
+fields-at-requires-3 : tie.Need-fields-at-requires-3
+fields-at-requires-3 c κs = search needs
+
+fields-at-requires-4 : tie.Need-fields-at-requires-4
+fields-at-requires-4 c κs = search needs
+
+fields-at-requires-5 : tie.Need-fields-at-requires-5
+fields-at-requires-5 c κs = search needs
+
+fields-at-requires-6 : tie.Need-fields-at-requires-6
+fields-at-requires-6 c κs = search needs
+
+fields-at-requires-7 : tie.Need-fields-at-requires-7
+fields-at-requires-7 c κs = search needs
+
+fields-at-requires-8 : tie.Need-fields-at-requires-8
+fields-at-requires-8 c κs = search needs
+
+fields-at-requires-9 : tie.Need-fields-at-requires-9
+fields-at-requires-9 c κs = search needs
+
+fields-at-requires-10 : tie.Need-fields-at-requires-10
+fields-at-requires-10 c κs = search needs
+
+fields-at-requires-11 : tie.Need-fields-at-requires-11
+fields-at-requires-11 c κs = search needs
+
+fields-at-requires-12 : tie.Need-fields-at-requires-12
+fields-at-requires-12 c κs = search needs
+
+fields-at-requires-13 : tie.Need-fields-at-requires-13
+fields-at-requires-13 c κs = search needs
+
+fields-at-requires-14 : tie.Need-fields-at-requires-14
+fields-at-requires-14 c κs = search needs
+
+fields-at-requires-15 : tie.Need-fields-at-requires-15
+fields-at-requires-15 c κs = search needs
+
+fields-at-requires-16 : tie.Need-fields-at-requires-16
+fields-at-requires-16 c κs = search needs
+
+fields-at-requires-17 : tie.Need-fields-at-requires-17
+fields-at-requires-17 c κs = search needs
+
+fields-at-requires-18 : tie.Need-fields-at-requires-18
+fields-at-requires-18 c κs = search needs
+
+fields-at-requires-19 : tie.Need-fields-at-requires-19
+fields-at-requires-19 c κs = search needs
+
+returns : tie.Need-returns
+unfolding allFields below
+returns c = rw (c .before .before .before .before .before .before .before .before .before .before .before .before .before .before .before .before .before .before .fields-at .ensures, c .before .before .before .before .before .before .before .before .before .before .before .before .before .before .before .before .before .fields-at2 .ensures, c .before .before .before .before .before .before .before .before .before .before .before .before .before .before .before .before .fields-at3 .ensures, c .before .before .before .before .before .before .before .before .before .before .before .before .before .before .before .fields-at4 .ensures, c .before .before .before .before .before .before .before .before .before .before .before .before .before .before .fields-at5 .ensures, c .before .before .before .before .before .before .before .before .before .before .before .before .before .fields-at6 .ensures, c .before .before .before .before .before .before .before .before .before .before .before .before .fields-at7 .ensures, c .before .before .before .before .before .before .before .before .before .before .before .fields-at8 .ensures, c .before .before .before .before .before .before .before .before .before .before .fields-at9 .ensures, c .before .before .before .before .before .before .before .before .before .fields-at10 .ensures, c .before .before .before .before .before .before .before .before .fields-at11 .ensures, c .before .before .before .before .before .before .before .fields-at12 .ensures, c .before .before .before .before .before .before .fields-at13 .ensures, c .before .before .before .before .before .fields-at14 .ensures, c .before .before .before .before .fields-at15 .ensures, c .before .before .before .fields-at16 .ensures, c .before .before .fields-at17 .ensures, c .before .fields-at18 .ensures, c .fields-at19 .ensures)
+
+pub all-fields-spec : {M : Type 1} → statement M
+all-fields-spec =
+    tie.close
+    (tie.spec
+    fields-at-requires
+    fields-at-requires-2
+    fields-at-requires-3
+    fields-at-requires-4
+    fields-at-requires-5
+    fields-at-requires-6
+    fields-at-requires-7
+    fields-at-requires-8
+    fields-at-requires-9
+    fields-at-requires-10
+    fields-at-requires-11
+    fields-at-requires-12
+    fields-at-requires-13
+    fields-at-requires-14
+    fields-at-requires-15
+    fields-at-requires-16
+    fields-at-requires-17
+    fields-at-requires-18
+    fields-at-requires-19
+    returns)

@@ -1,0 +1,51 @@
+-- `soundness::cell_sound` meets its contract.
+use mathlib.Core.Bool.{and-true}
+use borrow.Author.Needs.{needs}
+use Rattle.meaning.specs.Octets.{every, implies}
+use Rattle.meaning.specs.Table.{rowAt}
+use Rattle.table.proofs.Rows.{name-is, owner-is}
+use Rattle.soundness.specs.Fields.{cellSound}
+use Rattle.soundness.proofs.cell_sound.Statement.{statement}
+use Rattle.soundness.proofs.cell_sound.Tie as tie
+
+row-at-requires : tie.Need-row-at-requires
+row-at-requires c κs = search needs
+
+get16-requires : tie.Need-get16-requires
+get16-requires c κs = search needs
+
+is-pending-requires : tie.Need-is-pending-requires
+is-pending-requires c κs = search needs
+
+is-subscribed-requires : tie.Need-is-subscribed-requires
+is-subscribed-requires c κs = search needs
+
+by-port-requires : tie.Need-by-port-requires
+by-port-requires c κs = search needs
+
+shared-slice-read-result : tie.Need-shared-slice-read-result
+shared-slice-read-result c = search needs
+
+shared-slice-read-result-2 : tie.Need-shared-slice-read-result-2
+shared-slice-read-result-2 c = search needs
+
+returns : tie.Need-returns
+unfolding cellSound every implies
+returns c =
+    let s = c .before .before .before .before .before .before .before .before .before in
+    let r = c .before .before .before .before .before .before .before .row-at in
+    let x = rowAt (s .args .k) in
+    rw (c .before .before .before .before .before .before .get16 .ensures .0, name-is (r .result) x (r .ensures .0), c .before .before .before .before .is-pending .ensures, c .before .before .before .is-subscribed .ensures, c .before .before .by-port .ensures, owner-is (r .result) x (r .ensures .0), and-true)
+
+pub cell-sound-spec : {M : Type 1} → statement M
+cell-sound-spec =
+    tie.close
+    (tie.spec
+    row-at-requires
+    get16-requires
+    is-pending-requires
+    is-subscribed-requires
+    by-port-requires
+    shared-slice-read-result
+    shared-slice-read-result-2
+    returns)

@@ -1,0 +1,47 @@
+-- The test of sound memory in three parts: what the entries hold, that the octets past each length are zero, what is asked across entries.
+use Prim.Native.Nat.{ℕ}
+use mathlib.Core.Bool.{Bool, _&&_, cond}
+use mathlib.Core.List.{List, [], _∷_}
+use lib.ListN.{take, drop}
+use lib.Dec.{eqb, leb, ltb}
+use Rattle.meaning.specs.Octets.{octet, at16, blank, every, below, implies}
+use Rattle.meaning.specs.Table.{Row, rowAt, byPort, entryCount, gateEnabled, supportedListMax, commit}
+use Rattle.meaning.specs.Block.{permits}
+use Rattle.meaning.specs.Memory.{cell, room, isPresent, isSubscribed, isPending, size, flagLimit, present, clock, fourPresent, clockSound}
+
+-- name, zero octet, flags, marks
+unfoldable pub cellSound : Row → List ℕ → Bool
+cellSound r c =
+    every
+    (eqb (at16 c 0) (r .name)
+    ∷ eqb (octet c 3) 0
+    ∷ ltb (octet c 2) flagLimit
+    ∷ implies (isPending c) (isSubscribed c && byPort (r .owner))
+    ∷ [])
+
+-- length and value besides
+unfoldable pub fieldsSound : Row → List ℕ → List ℕ → Bool
+fieldsSound r c s =
+    every (cellSound r c ∷ leb (size c) (r .most) ∷ cond (isPresent c) (permits r (take (size c) s)) (eqb (size c) 0) ∷ [])
+
+unfoldable pub fieldsAt : List ℕ → ℕ → Bool
+fieldsAt m k = fieldsSound (rowAt k) (cell m k) (room m k)
+
+unfoldable pub tailAt : List ℕ → ℕ → Bool
+tailAt m k = blank (drop (size (cell m k)) (room m k))
+
+unfoldable pub allFields : List ℕ → Bool
+allFields m = below entryCount (fieldsAt m)
+
+unfoldable pub allTails : List ℕ → Bool
+allTails m = below entryCount (tailAt m)
+
+-- what is asked across the entries: 0003 and 000B present, a running block only where the four are, the timer
+unfoldable pub acrossSound : List ℕ → Bool
+acrossSound m =
+    every
+    (present m gateEnabled
+    ∷ present m supportedListMax
+    ∷ implies (present m commit) (fourPresent m)
+    ∷ clockSound (clock m)
+    ∷ [])

@@ -1,0 +1,2 @@
+-- What the contracts of `soundness` cite beside `meaning`.
+pub mod Fields

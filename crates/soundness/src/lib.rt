@@ -1,0 +1,157 @@
+// Sound memory: whether lent octets, of any length, are sound port memory.
+// First what the entries hold, then the octets between the values; all of them are looked at, with no early exit in a scan.
+ghost use Prim.Native.Nat.{_+_, _-_, _≤_, _<_};
+ghost use mathlib.Core.Path.{_≡_};
+ghost use mathlib.Core.Bool.{true, cond, _&&_};
+ghost use mathlib.Core.List.{[], _∷_};
+ghost use lib.ListN.{length};
+ghost use lib.Dec.{eqb};
+ghost use Rattle.meaning.specs.Octets.{part, blank};
+ghost use Rattle.meaning.specs.Table.{entryCount, memoryLength, rowAt, roomAt};
+ghost use Rattle.meaning.specs.Block.{permits};
+ghost use Rattle.meaning.specs.Memory.{cell, isPresent, size, clockSound, sound};
+ghost use Rattle.soundness.specs.Fields.{cellSound, fieldsAt, tailAt, allFields, allTails, acrossSound};
+
+// Name, zero octet and flags of a cell: no other flag bit, and pending only with subscribed and on names set by the port.
+fn cell_sound(k: usize, c: &[u8]) -> bool
+    requires { ⌜ length (now c) ≡ 6 ⌝ }
+    ensures { λ r. ⌜ r ≡ cellSound (rowAt k) (now (c .entry)) ⌝ }
+{
+    let row = table::row_at(k);
+    let named = octets::get16(c, 0) == row.name;
+    let owner = row.owner;
+    let pending = memory::is_pending(c);
+    let subscribed = memory::is_subscribed(c);
+    let port = table::by_port(owner);
+    named & ((c[3] == 0) & ((c[2] < 8) & (!pending | (subscribed & port))))
+}
+
+// A present value keeps its row, an absent one has length 0.
+fn value_sound(k: usize, c: &[u8], v: &[u8]) -> bool
+    requires { ⌜ length (now c) ≡ 6 ⌝ }
+    ensures { λ r. ⌜ r ≡ cond (isPresent (now (c .entry))) (permits (rowAt k) (now (v .entry))) (eqb (length (now (v .entry))) 0) ⌝ }
+{
+    if memory::is_present(c) {
+        table::permits(k, v)
+    } else {
+        v.len() == 0
+    }
+}
+
+// The entry at a place, but for the octets past its length.
+fn fields_at(m: &[u8], k: usize) -> bool
+    requires { ⌜ (length (now m) ≡ memoryLength) × (k < entryCount) ⌝ }
+    ensures { λ r. ⌜ r ≡ fieldsAt (now (m .entry)) k ⌝ }
+{
+    let c = memory::cell(m, k);
+    let s = memory::room(m, k);
+    let n = memory::size(c);
+    if s.len() < n {
+        return false;
+    }
+    cell_sound(k, c) & value_sound(k, c, &s[0..n])
+}
+
+// All entries. Each place is a constant here, so that its row is folded into the compiled code.
+fn all_fields(m: &[u8]) -> bool
+    requires { ⌜ length (now m) ≡ memoryLength ⌝ }
+    ensures { λ r. ⌜ r ≡ allFields (now (m .entry)) ⌝ }
+{
+    fields_at(m, 0)
+        & fields_at(m, 1)
+        & fields_at(m, 2)
+        & fields_at(m, 3)
+        & fields_at(m, 4)
+        & fields_at(m, 5)
+        & fields_at(m, 6)
+        & fields_at(m, 7)
+        & fields_at(m, 8)
+        & fields_at(m, 9)
+        & fields_at(m, 10)
+        & fields_at(m, 11)
+        & fields_at(m, 12)
+        & fields_at(m, 13)
+        & fields_at(m, 14)
+        & fields_at(m, 15)
+        & fields_at(m, 16)
+        & fields_at(m, 17)
+        & fields_at(m, 18)
+}
+
+// Octets that were looked at, and where those start that are looked at next.
+pub struct Gap {
+    pub blank: bool,
+    pub end: usize,
+}
+
+// The octets between the value before an entry, which ends at `end`, and its own. Rooms without a value join up with the
+// tails before them, so one scan covers all between two values.
+fn gap_at(m: &[u8], k: usize, end: usize) -> Gap
+    requires { ⌜ (length (now m) ≡ memoryLength) × (k < entryCount) × (end ≤ roomAt k) × (size (cell (now m) k) ≤ rowAt k .most) ⌝ }
+    ensures { λ r. ⌜ ((r .blank && blank (part (now (m .entry)) (r .end) (roomAt (k + 1) - r .end))) ≡ (blank (part (now (m .entry)) end (roomAt k - end)) && tailAt (now (m .entry)) k)) × (r .end ≤ roomAt (k + 1)) ⌝ }
+{
+    let n = memory::size(memory::cell(m, k));
+    if n == 0 {
+        return Gap { blank: true, end };
+    }
+    let row = table::row_at(k);
+    let start = row.start;
+    let blank = octets::is_blank(&m[end..start]);
+    Gap {
+        blank,
+        end: start + n,
+    }
+}
+
+// The octets past the lengths of all entries.
+fn all_tails(m: &[u8]) -> bool
+    requires { ⌜ (length (now m) ≡ memoryLength) × (allFields (now m) ≡ true) ⌝ }
+    ensures { λ r. ⌜ r ≡ allTails (now (m .entry)) ⌝ }
+{
+    let mut ok = true;
+    let mut end: usize = table::BODIES_AT;
+    let mut k: usize = 0;
+    while k < table::ENTRY_COUNT {
+        let g = gap_at(m, k, end);
+        ok = ok & g.blank;
+        end = g.end;
+        k += 1;
+    }
+    ok & octets::is_blank(&m[end..table::MEMORY_LENGTH])
+}
+
+// The timer's octets: waiting with 0 to 4 expiries, or idle with none.
+fn clock_sound(waiting: u8, expiries: u8) -> bool
+    ensures { λ r. ⌜ r ≡ clockSound (waiting ∷ expiries ∷ []) ⌝ }
+{
+    if waiting == 1 {
+        expiries <= 4
+    } else {
+        (waiting == 0) & (expiries == 0)
+    }
+}
+
+// What is asked across entries: 0003 and 000B present, a running block only where 0004 to 0007 are, the timer's ranges.
+fn across_sound(m: &[u8]) -> bool
+    requires { ⌜ length (now m) ≡ memoryLength ⌝ }
+    ensures { λ r. ⌜ r ≡ acrossSound (now (m .entry)) ⌝ }
+{
+    let gate = memory::present(m, table::GATE_ENABLED);
+    let most = memory::present(m, table::SUPPORTED_LIST_MAX);
+    let runs = memory::present(m, table::COMMIT);
+    let four = memory::four_present(m);
+    gate & (most & ((!runs | four) & clock_sound(m[table::CLOCK_AT], m[table::EXPIRIES_AT])))
+}
+
+// Whether octets of any length are sound port memory.
+pub fn sound(m: &[u8]) -> bool
+    ensures { λ r. ⌜ r ≡ sound (now (m .entry)) ⌝ }
+{
+    if m.len() != table::MEMORY_LENGTH {
+        return false;
+    }
+    if !all_fields(m) {
+        return false;
+    }
+    all_tails(m) & across_sound(m)
+}

@@ -1,0 +1,161 @@
+// The table of parameters: the 19 rows in the order of the table of contents, the place of a name, what a row permits.
+// Every answer is that of a definition of `meaning`.
+ghost use Prim.Native.Nat.{_+_, _≤_};
+ghost use mathlib.Core.Path.{_≡_};
+ghost use Rattle.meaning.specs.Table.{memoryLength, row, rowAt, roomAt, place, byController, byPort};
+ghost use Rattle.meaning.specs.Block.{permits};
+ghost use Rattle.schedule.specs.Rules.{ruleOf};
+ghost use Rattle.table.specs.Rows.{rowOf, ownerOf};
+use schedule::Rule;
+
+// Where things stand in port memory: 19 cells of 6 octets, the timer's two octets, the bodies.
+pub const ENTRY_COUNT: usize = 19;
+
+pub const CLOCK_AT: usize = 114;
+
+pub const EXPIRIES_AT: usize = 115;
+
+pub const BODIES_AT: usize = 116;
+
+pub const MEMORY_LENGTH: usize = 2100;
+
+// The places that rules name.
+pub const GATE_ENABLED: usize = 1;
+
+pub const ADMIN_BASE_TIME: usize = 2;
+
+pub const ADMIN_CONTROL_LIST_LENGTH: usize = 3;
+
+pub const ADMIN_CONTROL_LIST: usize = 4;
+
+pub const ADMIN_CYCLE_TIME: usize = 5;
+
+pub const SUPPORTED_LIST_MAX: usize = 7;
+
+pub const COMMIT: usize = 18;
+
+// Who sets a parameter.
+pub enum Owner {
+    Controller,
+    Port,
+    Nobody,
+}
+
+// A row of the table: name, least and greatest length, where its room starts, who sets it, its value rule.
+pub struct Row {
+    pub name: usize,
+    pub least: usize,
+    pub most: usize,
+    pub start: usize,
+    pub owner: Owner,
+    pub rule: Rule,
+}
+
+// A row from its fields, one line of the table.
+fn as_row(name: usize, least: usize, most: usize, start: usize, owner: Owner, rule: Rule) -> Row
+    ensures { λ r. ⌜ (rowOf r ≡ row name least most (ownerOf owner) (ruleOf rule)) × (r .start ≡ start) ⌝ }
+{
+    Row {
+        name,
+        least,
+        most,
+        start,
+        owner,
+        rule,
+    }
+}
+
+// The row at a place; past the table's end one that nobody sets. A `match` is one load of a static table, where a
+// constant array would be built anew at each access.
+pub fn row_at(k: usize) -> Row
+    ensures { λ r. ⌜ (rowOf r ≡ rowAt k) × (r .start ≡ roomAt k) × (r .start + r .most ≤ memoryLength) ⌝ }
+{
+    match k {
+        0 => as_row(0x0001, 8, 8, 116, Owner::Port, Rule::Free),
+        1 => as_row(0x0003, 1, 1, 124, Owner::Controller, Rule::Within(0, 1)),
+        2 => as_row(0x0004, 10, 10, 125, Owner::Controller, Rule::Time),
+        3 => as_row(0x0005, 4, 4, 135, Owner::Controller, Rule::Within(0, 64)),
+        4 => as_row(0x0006, 0, 448, 139, Owner::Controller, Rule::Entries),
+        5 => as_row(0x0007, 8, 8, 587, Owner::Controller, Rule::Ratio),
+        6 => as_row(0x0008, 4, 4, 595, Owner::Port, Rule::Free),
+        7 => as_row(0x000B, 4, 4, 599, Owner::Nobody, Rule::Within(64, 64)),
+        8 => as_row(0x0040, 1, 1, 603, Owner::Controller, Rule::Within(1, 4)),
+        9 => as_row(0x0041, 1, 1, 604, Owner::Controller, Rule::Within(1, 7)),
+        10 => as_row(0x0042, 1, 255, 605, Owner::Controller, Rule::Free),
+        11 => as_row(0x0060, 1, 1, 860, Owner::Controller, Rule::Within(1, 7)),
+        12 => as_row(0x0061, 1, 255, 861, Owner::Controller, Rule::Free),
+        13 => as_row(0x00A0, 1, 1, 1116, Owner::Port, Rule::Within(1, 7)),
+        14 => as_row(0x00A1, 1, 255, 1117, Owner::Port, Rule::Free),
+        15 => as_row(0x00A2, 1, 1, 1372, Owner::Port, Rule::Within(1, 7)),
+        16 => as_row(0x00A3, 1, 255, 1373, Owner::Port, Rule::Free),
+        17 => as_row(0x00A4, 2, 2, 1628, Owner::Port, Rule::Free),
+        18 => as_row(0x8001, 29, 470, 1630, Owner::Controller, Rule::Running),
+        _ => as_row(0, 0, 0, 2100, Owner::Nobody, Rule::Free),
+    }
+}
+
+// The place of a name in the table, 19 where it has none.
+pub fn place_of(name: usize) -> usize
+    ensures { λ r. ⌜ r ≡ place name ⌝ }
+{
+    match name {
+        0x0001 => 0,
+        0x0003 => 1,
+        0x0004 => 2,
+        0x0005 => 3,
+        0x0006 => 4,
+        0x0007 => 5,
+        0x0008 => 6,
+        0x000B => 7,
+        0x0040 => 8,
+        0x0041 => 9,
+        0x0042 => 10,
+        0x0060 => 11,
+        0x0061 => 12,
+        0x00A0 => 13,
+        0x00A1 => 14,
+        0x00A2 => 15,
+        0x00A3 => 16,
+        0x00A4 => 17,
+        0x8001 => 18,
+        _ => 19,
+    }
+}
+
+// Whether the controller sets it, by a set.
+pub fn by_controller(owner: Owner) -> bool
+    ensures { λ r. ⌜ r ≡ byController (ownerOf owner) ⌝ }
+{
+    match owner {
+        Owner::Controller => true,
+        Owner::Port => false,
+        Owner::Nobody => false,
+    }
+}
+
+// Whether the port sets it, by a local value.
+pub fn by_port(owner: Owner) -> bool
+    ensures { λ r. ⌜ r ≡ byPort (ownerOf owner) ⌝ }
+{
+    match owner {
+        Owner::Controller => false,
+        Owner::Port => true,
+        Owner::Nobody => false,
+    }
+}
+
+// Whether a value is one that the row at a place permits: its length, and its rule.
+pub fn permits(k: usize, v: &[u8]) -> bool
+    ensures { λ r. ⌜ r ≡ permits (rowAt k) (now (v .entry)) ⌝ }
+{
+    let row = row_at(k);
+    let n = v.len();
+    if n < row.least {
+        return false;
+    }
+    if row.most < n {
+        return false;
+    }
+    let rule = row.rule;
+    schedule::keeps(rule, v)
+}
