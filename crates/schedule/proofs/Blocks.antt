@@ -1,15 +1,16 @@
--- Blocks: the length of joined values, the sums that a value of 4 octets spells.
+-- Blocks: four values joined and cut apart again, form and fit by four values, a turn of the sums, the sums that a value spells.
 use Prim.Native.Nat.{ℕ, _+_, _-_, _/_, _%_, _<_, _≤_}
 use native.Mathlib.Omega.{arith}
+use native.Mathlib.Numerals.{add-one}
 use mathlib.Core.Path.{_≡_, refl, sym, ap, _∙_}
 use mathlib.Core.Bool.{Bool, true, false, _&&_, and-true}
 use mathlib.Core.List.{List, [], _∷_, _++_, append-assoc}
 use lib.ListN.{length, take, drop, length-append, length-drop, take-append-drop}
-use lib.Seq.{take-all, drop-drop}
+use lib.Seq.{drop-cons, take-all, drop-drop}
 use lib.Dec.{eqb, leb}
 use borrow.Author.Tests.{eqb-true, eq-eqb, leb-true, le-leb}
 use Rattle.meaning.specs.Octets.{octet, at16, be16, splice, every, same}
-use Rattle.meaning.specs.Block.{number, timeOk, entriesOf, eachOk, listOk, intervals, ratioOk, cycle, sumsOf, sums, joinedBlock, formAndFit}
+use Rattle.meaning.specs.Block.{sumsFrom, number, timeOk, entriesOf, eachOk, listOk, intervals, ratioOk, cycle, sumsOf, sums, joinedBlock, formAndFit}
 use Rattle.meaning.proofs.Lists.{be16-at16}
 use Rattle.meaning.proofs.Sums.{first-sum, second-sum, first-shown, second-shown}
 use Rattle.meaning.proofs.Tests.{and-left, and-right, and-both, every-at, alike, same-true, same-refl}
@@ -43,6 +44,11 @@ four-spelt (a ∷ b ∷ []) h o = absurd (omega (arith, h))
 four-spelt (a ∷ b ∷ c ∷ []) h o = absurd (omega (arith, h))
 four-spelt (a ∷ b ∷ c ∷ d ∷ []) h o = rw (be16-at16 a b (o 0) (o 1), be16-at16 c d (o 2) (o 3))
 four-spelt (a ∷ b ∷ c ∷ d ∷ e ∷ v) h o = absurd (omega (arith, h))
+
+-- a turn of the two sums
+pub sums-turn : (s : List ℕ) (i a b : ℕ) → i < length s → sumsFrom ((a + octet s i) % 65536) ((b + (a + octet s i) % 65536) % 65536) (drop (i + 1) s) ≡ sumsFrom a b (drop i s)
+unfolding sumsFrom
+sums-turn s i a b h = rw (drop-cons s i 0 h, add-one)
 
 sums-octets : (b : List ℕ) → sums b ≡ be16 (sumsOf b .first) ++ be16 (sumsOf b .second)
 unfolding sums

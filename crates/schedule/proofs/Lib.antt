@@ -1,4 +1,2 @@
 -- Laws that the functions' proofs cite.
-pub mod Values
-pub mod Walks
 pub mod Blocks

@@ -6,7 +6,7 @@ use mathlib.Core.List.{[]}
 use lib.ListN.{length, drop, drop-of-length-le}
 use borrow.Author.Needs.{needs}
 use Rattle.meaning.specs.Block.{Sums, sumsFrom, sumsOf}
-use Rattle.schedule.proofs.Walks.{sums-turn}
+use Rattle.schedule.proofs.Blocks.{sums-turn}
 use Rattle.schedule.proofs.sums_of.Statement.{statement}
 use Rattle.schedule.proofs.sums_of.Tie as tie
 

@@ -1,7 +1,7 @@
--- `schedule::within` meets its contract.
+-- `rules::within` meets its contract.
 use borrow.Author.Needs.{needs}
-use Rattle.schedule.proofs.within.Statement.{statement}
-use Rattle.schedule.proofs.within.Tie as tie
+use Rattle.rules.proofs.within.Statement.{statement}
+use Rattle.rules.proofs.within.Tie as tie
 
 number-requires : tie.Need-number-requires
 number-requires c κs = search needs

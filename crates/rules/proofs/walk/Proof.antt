@@ -1,4 +1,4 @@
--- `schedule::walk` meets its contract: the entries passed and those left give what the whole list gives.
+-- `rules::walk` meets its contract: the entries passed and those left give what the whole list gives.
 use Prim.Native.Nat.{_+_, _-_, _*_, _/_, _≤_, _<_}
 use native.Mathlib.Omega.{arith}
 use native.Mathlib.Nat.{sub-zero, zero-add, add-zero, sub-eq-zero-of-le}
@@ -8,9 +8,9 @@ use lib.ListN.{length, drop}
 use borrow.Author.Needs.{needs}
 use Rattle.meaning.specs.Octets.{part}
 use Rattle.meaning.specs.Block.{cutIn, entriesOf, interval, entryOk, eachOk, intervals}
-use Rattle.schedule.proofs.Walks.{each-turn, intervals-turn}
-use Rattle.schedule.proofs.walk.Statement.{statement}
-use Rattle.schedule.proofs.walk.Tie as tie
+use Rattle.rules.proofs.Walks.{each-turn, intervals-turn}
+use Rattle.rules.proofs.walk.Statement.{statement}
+use Rattle.rules.proofs.walk.Tie as tie
 
 abbrev Inv-loop : tie.InvT-loop
 Inv-loop v n ok₀ sum₀ k₀ ok sum k =

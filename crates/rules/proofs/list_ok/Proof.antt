@@ -1,8 +1,8 @@
--- `schedule::list_ok` meets its contract.
+-- `rules::list_ok` meets its contract.
 use borrow.Author.Needs.{needs}
 use Rattle.meaning.specs.Block.{listOk}
-use Rattle.schedule.proofs.list_ok.Statement.{statement}
-use Rattle.schedule.proofs.list_ok.Tie as tie
+use Rattle.rules.proofs.list_ok.Statement.{statement}
+use Rattle.rules.proofs.list_ok.Tie as tie
 
 walk-requires : tie.Need-walk-requires
 walk-requires c κs = search needs

@@ -1,11 +1,11 @@
--- `schedule::fits_cycle` meets its contract.
+-- `rules::fits_cycle` meets its contract.
 use native.Mathlib.Omega.{arith}
 use borrow.Author.Needs.{needs}
 use borrow.Author.Tests.{leb-true}
 use Rattle.meaning.specs.Octets.{at32}
 use Rattle.meaning.specs.Block.{ratioOk, cycle}
-use Rattle.schedule.proofs.fits_cycle.Statement.{statement}
-use Rattle.schedule.proofs.fits_cycle.Tie as tie
+use Rattle.rules.proofs.fits_cycle.Statement.{statement}
+use Rattle.rules.proofs.fits_cycle.Tie as tie
 
 get32-requires : tie.Need-get32-requires
 get32-requires c κs = search needs

@@ -1,10 +1,10 @@
--- `schedule::entry_ok` meets its contract.
+-- `rules::entry_ok` meets its contract.
 use mathlib.Core.Bool.{and-true}
 use borrow.Author.Needs.{needs}
 use Rattle.meaning.specs.Octets.{every}
 use Rattle.meaning.specs.Block.{interval, entryOk}
-use Rattle.schedule.proofs.entry_ok.Statement.{statement}
-use Rattle.schedule.proofs.entry_ok.Tie as tie
+use Rattle.rules.proofs.entry_ok.Statement.{statement}
+use Rattle.rules.proofs.entry_ok.Tie as tie
 
 shared-slice-read-result : tie.Need-shared-slice-read-result
 shared-slice-read-result c = search needs

@@ -1,18 +1,13 @@
--- A turn of each walk: over a block's octets for the sums, over a list's entries.
-use Prim.Native.Nat.{ℕ, suc, _+_, _-_, _*_, _%_, _<_}
+-- A turn of the walk over a list's entries.
+use Prim.Native.Nat.{ℕ, suc, _+_, _-_, _*_, _<_}
 use native.Mathlib.Omega.{arith}
-use native.Mathlib.Numerals.{add-one}
 use mathlib.Core.Path.{_≡_}
 use mathlib.Core.Bool.{Bool, _&&_, and-assoc}
 use mathlib.Core.List.{List, _∷_}
-use lib.ListN.{length, drop}
-use lib.Seq.{drop-cons, drop-drop}
-use Rattle.meaning.specs.Octets.{octet, part}
-use Rattle.meaning.specs.Block.{cutIn, interval, entryOk, eachOk, intervals, sumsFrom}
-
-pub sums-turn : (s : List ℕ) (i a b : ℕ) → i < length s → sumsFrom ((a + octet s i) % 65536) ((b + (a + octet s i) % 65536) % 65536) (drop (i + 1) s) ≡ sumsFrom a b (drop i s)
-unfolding sumsFrom
-sums-turn s i a b h = rw (drop-cons s i 0 h, add-one)
+use lib.ListN.{drop}
+use lib.Seq.{drop-drop}
+use Rattle.meaning.specs.Octets.{part}
+use Rattle.meaning.specs.Block.{cutIn, interval, entryOk, eachOk, intervals}
 
 -- the entries from k on: the entry there, and those from the next on
 pub entries-turn : (v : List ℕ) (n k : ℕ) → k < n → cutIn (n - k) (drop (k * 7) v) ≡ part v (k * 7) 7 ∷ cutIn (n - (k + 1)) (drop ((k + 1) * 7) v)

@@ -1,10 +1,10 @@
--- `schedule::number` meets its contract.
+-- `rules::number` meets its contract.
 use native.Mathlib.Omega.{arith}
 use mathlib.Core.Path.{sym, _∙_}
 use borrow.Author.Needs.{needs}
-use Rattle.schedule.proofs.Values.{number-one, number-four, four-left}
-use Rattle.schedule.proofs.number.Statement.{statement}
-use Rattle.schedule.proofs.number.Tie as tie
+use Rattle.rules.proofs.Values.{number-one, number-four, four-left}
+use Rattle.rules.proofs.number.Statement.{statement}
+use Rattle.rules.proofs.number.Tie as tie
 
 shared-slice-read-wide : tie.Need-shared-slice-read-wide
 shared-slice-read-wide c = search needs

@@ -1,8 +1,8 @@
--- `schedule::ratio_ok` meets its contract.
+-- `rules::ratio_ok` meets its contract.
 use borrow.Author.Needs.{needs}
 use Rattle.meaning.specs.Block.{ratioOk}
-use Rattle.schedule.proofs.ratio_ok.Statement.{statement}
-use Rattle.schedule.proofs.ratio_ok.Tie as tie
+use Rattle.rules.proofs.ratio_ok.Statement.{statement}
+use Rattle.rules.proofs.ratio_ok.Tie as tie
 
 get32-requires : tie.Need-get32-requires
 get32-requires c κs = search needs

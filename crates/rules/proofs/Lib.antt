@@ -1,0 +1,3 @@
+-- Laws that the functions' proofs cite.
+pub mod Values
+pub mod Walks
