@@ -14,7 +14,8 @@ use Rattle.meaning.proofs.Places.{length-cellOf, length-roomOf}
 use Rattle.octets.proofs.Splices.{then, splice-all, two-stores, lent-back}
 
 -- name, flags, zero octet and length, one behind another
-pub cell-written : (c : List ℕ) (name f n : ℕ) {s₁ s₃ : List ℕ} → length c ≡ 6 → s₁ ≡ splice c 0 (be16 name) → s₃ ≡ splice (set (set s₁ 2 f) 3 0) 4 (be16 n) → s₃ ≡ be16 name ++ (f ∷ 0 ∷ be16 n)
+pub cell-written : (c : List ℕ) (name f n : ℕ) {s₁ s₃ : List ℕ} → length c ≡ 6 → s₁ ≡ splice c 0 (be16 name)
+    → s₃ ≡ splice (set (set s₁ 2 f) 3 0) 4 (be16 n) → s₃ ≡ be16 name ++ (f ∷ 0 ∷ be16 n)
 unfolding be16
 cell-written c name f n {s₁} h e₁ e₃ =
     let l : length s₁ ≡ 6 = rw e₁ (splice-length c 0 (be16 name) (omega arith) ∙ h) in
@@ -29,7 +30,8 @@ cell-back m c k f n e =
     lent-back m c (6 * k) (6 * k + 6) (omega arith) (ap length e ∙ omega (arith, length-cellOf k f n)) ∙ ap (splice m (6 * k)) e
 
 -- a room of w octets that starts at a and holds b of them, filled with a value
-pub room-back : (m s v : List ℕ) (k a b w : ℕ) → a ≡ roomAt k → b ≡ rowAt k .most → w ≡ a + b - a → length v ≤ rowAt k .most → s ≡ v ++ zeros (w - length v) → putMid a (a + b - a) m s ≡ putRoom m k v
+pub room-back : (m s v : List ℕ) (k a b w : ℕ) → a ≡ roomAt k → b ≡ rowAt k .most → w ≡ a + b - a → length v ≤ rowAt k .most
+    → s ≡ v ++ zeros (w - length v) → putMid a (a + b - a) m s ≡ putRoom m k v
 unfolding putRoom roomOf
 room-back m s v k a b w ha hb hw h e =
     let n : w ≡ rowAt k .most = omega (arith, hw, hb) in
@@ -37,6 +39,7 @@ room-back m s v k a b w ha hb hw h e =
     lent-back m s a (a + b) (omega arith) (ap length f ∙ omega (arith, length-roomOf k v h, hb)) ∙ rw (f, ha)
 
 -- cleared, named, and the two values that fresh memory holds put in
-pub fresh-made : (m : List ℕ) {a b d e : List ℕ} → length m ≡ 2100 → a ≡ take 0 m ++ zeros (length m - 0) → b ≡ absent 19 a → d ≡ put b 1 1 (0 ∷ []) → e ≡ put d 7 1 (0 ∷ 0 ∷ 0 ∷ 64 ∷ []) → e ≡ fresh
+pub fresh-made : (m : List ℕ) {a b d e : List ℕ} → length m ≡ 2100 → a ≡ take 0 m ++ zeros (length m - 0)
+    → b ≡ absent 19 a → d ≡ put b 1 1 (0 ∷ []) → e ≡ put d 7 1 (0 ∷ 0 ∷ 0 ∷ 64 ∷ []) → e ≡ fresh
 unfolding fresh flags bit be32 be16
 fresh-made m h p q r s = rw (s, r, q, p, sub-zero, h)

@@ -4,17 +4,10 @@ use native.Mathlib.Omega.{arith}
 use native.Mathlib.Numerals.{add-one}
 use mathlib.Core.Path.{_≡_, refl, sym, ap, _∙_}
 use mathlib.Core.List.{List, [], _∷_, _++_, append-assoc, append-nil}
-use lib.ListN.{length, take, drop, set, length-append, take-append-drop, drop-of-length-le}
+use lib.ListN.{length, take, drop, set, length-append, drop-of-length-le}
 use lib.Seq.{take-at, drop-append-add, drop-drop, length-take-le, take-length, sets-eq}
 use borrow.Rule.Slice.PartMut.{putMid, post-is}
 use Rattle.meaning.specs.Octets.{part, splice}
-
--- nothing written is no change
-pub splice-nil : (s : List ℕ) (i : ℕ) → splice s i [] ≡ s
-unfolding splice
-splice-nil s i =
-    let e : i + 0 ≡ i = omega arith in
-    rw e (take-append-drop i s)
 
 -- as many octets written as there are: nothing is left of the old ones
 pub splice-all : (s v : List ℕ) → length v ≡ length s → splice s 0 v ≡ v

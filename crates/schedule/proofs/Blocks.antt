@@ -11,11 +11,14 @@ use lib.Dec.{eqb, leb}
 use borrow.Author.Tests.{eqb-true, eq-eqb, leb-true, le-leb}
 use Rattle.meaning.specs.Octets.{octet, at16, be16, splice, every, same}
 use Rattle.meaning.specs.Block.{sumsFrom, number, timeOk, entriesOf, eachOk, listOk, intervals, ratioOk, cycle, sumsOf, sums, joinedBlock, formAndFit}
+use Rattle.meaning.specs.Memory.{fourPresent}
+use Rattle.meaning.specs.Step.{block, commits}
 use Rattle.meaning.proofs.Lists.{be16-at16}
 use Rattle.meaning.proofs.Sums.{first-sum, second-sum, first-shown, second-shown}
 use Rattle.meaning.proofs.Tests.{and-left, and-right, and-both, every-at, alike, same-true, same-refl}
 use Rattle.meaning.proofs.Commit.{form-joined}
 use Rattle.octets.proofs.Splices.{then}
+use Rattle.schedule.specs.Rules.{agrees}
 
 pub joined-length : (b c l r : List ℕ) → length (joinedBlock b c l r) ≡ length b + length c + length l + length r
 unfolding joinedBlock
@@ -166,3 +169,8 @@ in-order true true c = sym (and-true c)
 in-order true false c = refl
 in-order false true c = refl
 in-order false false c = refl
+
+-- on memory: the four values present, and what `agrees` asks of their block, are a commit's conditions
+pub commits-agrees : (m v : List ℕ) → commits m v ≡ (fourPresent m && agrees (block m) v)
+unfolding commits agrees every
+commits-agrees m v = refl

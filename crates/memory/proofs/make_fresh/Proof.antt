@@ -31,8 +31,12 @@ same-length c = search needs
 
 returns : tie.Need-returns
 returns c =
-    let s = c .before .before .before .before .before .before .before .before .before .before .before .before .before .before .before .before .before .before .before in
-    fresh-made (s .args .m .now) (s .pre) (c .before .before .before .before .before .before .before .before .before .before .before .before .before .before .before .before .clear-from .ensures) (c .before .before .before .before .before .before .before .before .before .before .before .before .name-cells .ensures) (c .before .before .before .before .before .before .before .put .ensures) (c .before .before .put2 .ensures)
+    let p = c .before .before in
+    let q = p .before .before .before .before .before in
+    let r = q .before .before .before .before .before in
+    let t = r .before .before .before .before in
+    let s = t .before .before .before in
+    fresh-made (s .args .m .now) (s .pre) (t .clear-from .ensures) (r .name-cells .ensures) (q .put .ensures) (p .put2 .ensures)
 
 pub make-fresh-spec : {M : Type 1} → statement M
 make-fresh-spec =

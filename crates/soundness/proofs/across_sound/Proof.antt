@@ -34,7 +34,16 @@ returns : tie.Need-returns
 unfolding acrossSound every implies clockSound clock
 returns c =
     let m = c .before .before .before .before .before .before .before .before .args .m .now in
-    rw (c .before .before .before .before .before .before .present .ensures, c .before .before .before .before .before .present2 .ensures, c .before .before .before .before .present3 .ensures, c .before .before .before .four-present .ensures, c .clock-sound .ensures, part-octet m 114 2 0 (omega arith), part-octet m 114 2 1 (omega arith), and-true)
+    rw (
+      c .before .before .before .before .before .before .present .ensures,
+      c .before .before .before .before .before .present2 .ensures,
+      c .before .before .before .before .present3 .ensures,
+      c .before .before .before .four-present .ensures,
+      c .clock-sound .ensures,
+      part-octet m 114 2 0 (omega arith),
+      part-octet m 114 2 1 (omega arith),
+      and-true,
+    )
 
 pub across-sound-spec : {M : Type 1} → statement M
 across-sound-spec =

@@ -64,7 +64,46 @@ fields-at-requires-19 c κs = search needs
 
 returns : tie.Need-returns
 unfolding allFields below
-returns c = rw (c .before .before .before .before .before .before .before .before .before .before .before .before .before .before .before .before .before .before .fields-at .ensures, c .before .before .before .before .before .before .before .before .before .before .before .before .before .before .before .before .before .fields-at2 .ensures, c .before .before .before .before .before .before .before .before .before .before .before .before .before .before .before .before .fields-at3 .ensures, c .before .before .before .before .before .before .before .before .before .before .before .before .before .before .before .fields-at4 .ensures, c .before .before .before .before .before .before .before .before .before .before .before .before .before .before .fields-at5 .ensures, c .before .before .before .before .before .before .before .before .before .before .before .before .before .fields-at6 .ensures, c .before .before .before .before .before .before .before .before .before .before .before .before .fields-at7 .ensures, c .before .before .before .before .before .before .before .before .before .before .before .fields-at8 .ensures, c .before .before .before .before .before .before .before .before .before .before .fields-at9 .ensures, c .before .before .before .before .before .before .before .before .before .fields-at10 .ensures, c .before .before .before .before .before .before .before .before .fields-at11 .ensures, c .before .before .before .before .before .before .before .fields-at12 .ensures, c .before .before .before .before .before .before .fields-at13 .ensures, c .before .before .before .before .before .fields-at14 .ensures, c .before .before .before .before .fields-at15 .ensures, c .before .before .before .fields-at16 .ensures, c .before .before .fields-at17 .ensures, c .before .fields-at18 .ensures, c .fields-at19 .ensures)
+returns c =
+    let c1 = c .before in
+    let c2 = c1 .before in
+    let c3 = c2 .before in
+    let c4 = c3 .before in
+    let c5 = c4 .before in
+    let c6 = c5 .before in
+    let c7 = c6 .before in
+    let c8 = c7 .before in
+    let c9 = c8 .before in
+    let c10 = c9 .before in
+    let c11 = c10 .before in
+    let c12 = c11 .before in
+    let c13 = c12 .before in
+    let c14 = c13 .before in
+    let c15 = c14 .before in
+    let c16 = c15 .before in
+    let c17 = c16 .before in
+    let c18 = c17 .before in
+    rw (
+      c18 .fields-at .ensures,
+      c17 .fields-at2 .ensures,
+      c16 .fields-at3 .ensures,
+      c15 .fields-at4 .ensures,
+      c14 .fields-at5 .ensures,
+      c13 .fields-at6 .ensures,
+      c12 .fields-at7 .ensures,
+      c11 .fields-at8 .ensures,
+      c10 .fields-at9 .ensures,
+      c9 .fields-at10 .ensures,
+      c8 .fields-at11 .ensures,
+      c7 .fields-at12 .ensures,
+      c6 .fields-at13 .ensures,
+      c5 .fields-at14 .ensures,
+      c4 .fields-at15 .ensures,
+      c3 .fields-at16 .ensures,
+      c2 .fields-at17 .ensures,
+      c1 .fields-at18 .ensures,
+      c .fields-at19 .ensures,
+    )
 
 pub all-fields-spec : {M : Type 1} → statement M
 all-fields-spec =

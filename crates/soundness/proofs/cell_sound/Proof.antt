@@ -35,7 +35,15 @@ returns c =
     let s = c .before .before .before .before .before .before .before .before .before in
     let r = c .before .before .before .before .before .before .before .row-at in
     let x = rowAt (s .args .k) in
-    rw (c .before .before .before .before .before .before .get16 .ensures .0, name-is (r .result) x (r .ensures .0), c .before .before .before .before .is-pending .ensures, c .before .before .before .is-subscribed .ensures, c .before .before .by-port .ensures, owner-is (r .result) x (r .ensures .0), and-true)
+    rw (
+      c .before .before .before .before .before .before .get16 .ensures .0,
+      name-is (r .result) x (r .ensures .0),
+      c .before .before .before .before .is-pending .ensures,
+      c .before .before .before .is-subscribed .ensures,
+      c .before .before .by-port .ensures,
+      owner-is (r .result) x (r .ensures .0),
+      and-true,
+    )
 
 pub cell-sound-spec : {M : Type 1} → statement M
 cell-sound-spec =
