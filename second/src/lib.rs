@@ -1,5 +1,6 @@
 //! Bightmoor's second port management endpoint: five calls over one port's lent memory, the
-//! delay conversion, and what the programs `bridge`, `rig`, `traffic` and `compare` are made of.
+//! delay conversion, and what the programs `bridge`, `rig`, `traffic`, `compare` and `measure` are
+//! made of.
 #![forbid(unsafe_code)]
 #![warn(missing_docs)]
 
@@ -13,6 +14,7 @@ mod reply;
 pub mod bridge;
 pub mod compare;
 pub mod delay;
+pub mod measure;
 pub mod program;
 pub mod rig;
 pub mod stream;

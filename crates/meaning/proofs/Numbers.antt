@@ -61,7 +61,7 @@ length-wrong s d = go (lengthRight s) refl d
     go true e (inr (inl w)) = absurd (omega (arith, leb-true 1 (octet s 1 * 256 + octet s 2) (every-at _ 1 e)))
     go true e (inr (inr w)) = absurd (omega (arith, leb-true (3 + (octet s 1 * 256 + octet s 2)) (length s) (every-at _ 2 e)))
 
-length-right : (m s : List ℕ) → Measured m s → lengthRight s ≡ true
+pub length-right : (m s : List ℕ) → Measured m s → lengthRight s ≡ true
 unfolding lengthRight lengthField at16 every
 length-right m s l = simp (le-leb 3 (length s) (l .there), le-leb 1 (octet s 1 * 256 + octet s 2) (l .notZero), le-leb (3 + (octet s 1 * 256 + octet s 2)) (length s) (l .inside))
 

@@ -62,10 +62,13 @@ lent-back m ys a e h l =
     let k : a + length ys ≡ e = omega arith in
     rw (post-is a e m h, k)
 
+-- octets copied over as many
+pub copied-whole : (src old last : List ℕ) → length old ≤ length src → last ≡ take (length src) src ++ drop (length src) old → last ≡ src
+copied-whole src old last k e = rw (e, take-length src, drop-of-length-le old k) (append-nil src)
+
 -- octets copied into a part that is just as long
 pub copied-in : (out src part last : List ℕ) (at : ℕ) → length part ≡ at + length src - at → last ≡ take (length src) src ++ drop (length src) part
     → putMid at (at + length src - at) out last ≡ splice out at src
 copied-in out src part last at n e =
-    let k : length part ≤ length src = omega arith in
-    let f : last ≡ src = rw (e, take-length src, drop-of-length-le part k) (append-nil src) in
+    let f : last ≡ src = copied-whole src part last (omega arith) e in
     lent-back out last at (at + length src) (omega arith) (rw f (omega arith)) ∙ ap (splice out at) f

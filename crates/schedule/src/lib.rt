@@ -134,5 +134,6 @@ pub fn commit(
     ensures { λ _. ⌜ now (block .exit) ≡ splice (now (block .entry)) 0 (joinedBlock (now (base .entry)) (now (count .entry)) (now (list .entry)) (now (ratio .entry))) ⌝ }
 {
     let n = join(base, count, list, ratio, block);
-    values_fit(base, count, list, ratio) & sums_agree(&block[0..n], value)
+    let joined = &block[0..n];
+    form_and_fit(joined) & sums_agree(joined, value)
 }

@@ -6,8 +6,9 @@ use std::process::ExitCode;
 use second::program;
 use second::traffic::{self, Kind};
 
-const USAGE: &str = "usage: traffic KIND SEED COUNT; KIND is frames (for bridge) or script (for \
-rig), SEED the number that the stream follows from, COUNT how many frames or records it has";
+const USAGE: &str = "usage: traffic KIND SEED COUNT; KIND is frames, mixed or empty (for \
+bridge) or script (for rig), SEED the number that the stream follows from, COUNT how many frames \
+or records it has";
 
 fn main() -> ExitCode {
     let arguments = program::arguments();

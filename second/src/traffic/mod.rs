@@ -2,6 +2,7 @@
 
 mod commands;
 mod dice;
+mod measured;
 mod memories;
 mod schedules;
 mod script;
@@ -21,8 +22,12 @@ const ROOM: usize = 4_096;
 /// What a stream is made of.
 #[derive(Clone, Copy, Debug, PartialEq, Eq)]
 pub enum Kind {
-    /// Frames for `bridge`.
+    /// Frames for `bridge`, of every kind and often faulty.
     Frames,
+    /// Frames for `bridge` that are all carried out, to be measured.
+    Mixed,
+    /// Empty frames for `bridge` after one that fills memory, to be measured.
+    Empty,
     /// Records for `rig`.
     Script,
 }
@@ -33,8 +38,12 @@ impl FromStr for Kind {
     fn from_str(word: &str) -> Result<Kind, String> {
         match word {
             "frames" => Ok(Kind::Frames),
+            "mixed" => Ok(Kind::Mixed),
+            "empty" => Ok(Kind::Empty),
             "script" => Ok(Kind::Script),
-            _ => Err(format!("KIND is frames or script, not {word:?}")),
+            _ => Err(format!(
+                "KIND is frames, mixed, empty or script, not {word:?}"
+            )),
         }
     }
 }
@@ -47,9 +56,12 @@ pub fn number(meaning: &str, word: &str) -> Result<u64, String> {
 
 /// Writes the stream of `count` pieces that belongs to `seed`.
 pub fn write<W: Write>(kind: Kind, seed: u64, count: u64, sink: &mut W) -> io::Result<()> {
+    let mut dice = Dice::new(seed);
     match kind {
-        Kind::Frames => write_frames(&mut Dice::new(seed), count, sink),
-        Kind::Script => script::write(&mut Dice::new(seed), count, sink),
+        Kind::Frames => write_frames(&mut dice, count, sink),
+        Kind::Mixed => measured::mixed(&mut dice, count, sink),
+        Kind::Empty => measured::empty(&mut dice, count, sink),
+        Kind::Script => script::write(&mut dice, count, sink),
     }
 }
 
@@ -68,14 +80,18 @@ fn write_frames<W: Write>(dice: &mut Dice, count: u64, sink: &mut W) -> io::Resu
     for left in (0..count).rev() {
         let message = commands::message(dice, &memory);
         take_message(&mut memory, &message, &mut room);
-        let mut frame = (message.len() as u16).to_be_bytes().to_vec();
-        frame.extend(message);
+        let mut frame = frame(&message);
         if cut && left == 0 {
             shorten(dice, &mut frame, 2);
         }
         sink.write_all(&frame)?;
     }
     Ok(())
+}
+
+/// The frame of a message.
+fn frame(message: &[u8]) -> Vec<u8> {
+    [&(message.len() as u16).to_be_bytes(), message].concat()
 }
 
 /// Cuts a piece within its head, right after it, or within its body.

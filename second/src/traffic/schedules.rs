@@ -8,6 +8,8 @@ use crate::port;
 use crate::table::{COMMIT, PARTS, TABLE};
 
 const BILLION: u128 = 1_000_000_000;
+/// Entries of the longest list.
+const MOST_ENTRIES: usize = 64;
 
 /// The values of 0004, 0005, 0006 and 0007.
 pub type Values = [Vec<u8>; PARTS.len()];
@@ -92,6 +94,22 @@ pub fn operations(dice: &mut Dice, memory: &[u8]) -> Operations {
     if dice.one_in(2) {
         operations.read(TABLE[COMMIT].name);
     }
+    operations
+}
+
+/// Operations that set and commit a schedule with as many entries as a list can have, in the longest
+/// cycle, which every list fits.
+pub fn longest(dice: &mut Dice) -> Operations {
+    let base_time = values::permitted(dice, &TABLE[PARTS[0]]);
+    let list = list(dice, MOST_ENTRIES);
+    let count = (MOST_ENTRIES as u32).to_be_bytes();
+    let cycle = [u32::MAX.to_be_bytes(), 1_u32.to_be_bytes()].concat();
+    let parts = [base_time, count.into(), list, cycle];
+    let mut operations = Operations::default();
+    for (value, part) in parts.iter().zip(PARTS) {
+        operations.set(TABLE[part].name, value);
+    }
+    operations.set(TABLE[COMMIT].name, &sums(&parts));
     operations
 }
 

@@ -8,6 +8,7 @@ pub const BRIDGE: &str = env!("CARGO_BIN_EXE_bridge");
 pub const RIG: &str = env!("CARGO_BIN_EXE_rig");
 pub const TRAFFIC: &str = env!("CARGO_BIN_EXE_traffic");
 pub const COMPARE: &str = env!("CARGO_BIN_EXE_compare");
+pub const MEASURE: &str = env!("CARGO_BIN_EXE_measure");
 
 fn start(program: &str, arguments: &[&str]) -> Child {
     Command::new(program)

@@ -9,7 +9,7 @@ const SCRIPTS: u64 = 200;
 const RECORDS: u64 = 200;
 
 /// The pieces of a stream, the last cut one excepted.
-fn pieces(stream: &[u8], head: usize) -> Vec<(Vec<u8>, Vec<u8>)> {
+pub fn pieces(stream: &[u8], head: usize) -> Vec<(Vec<u8>, Vec<u8>)> {
     let mut rest = stream;
     let mut pieces = Vec::new();
     while let Some((front, after)) = rest.split_at_checked(head) {
@@ -150,6 +150,81 @@ fn frames_have_every_kind_of_message() {
     often(&seen.replies, &[4_095, 4_096], 50);
 }
 
+/// The operations and the reply of each frame of a stream whose frames are all carried out.
+fn replies(stream: &[u8]) -> Vec<(Vec<u8>, Reply)> {
+    let mut bench = Bench::fresh();
+    let messages = pieces(stream, 2).into_iter();
+    let answered = messages.map(|(_, message)| {
+        let (number, reply) = bench.send(&message);
+        assert_eq!(number, 0, "message {message:02x?}");
+        (message[3..].to_vec(), Reply::parse(&reply))
+    });
+    answered.collect()
+}
+
+#[test]
+fn mixed_frames_read_and_set_by_turns() {
+    let replies = replies(&stream(Kind::Mixed, 7, 3_000));
+    assert_eq!(replies.len(), 3_000);
+    let mut set = BTreeMap::new();
+    for (turn, (operations, reply)) in replies.iter().enumerate() {
+        let reads = reply.values.len() + reply.read_errors.len();
+        let updates: Vec<_> = reply.updates.iter().chain(&reply.long_updates).collect();
+        assert!(reply.update_errors.is_empty());
+        match turn % 3 {
+            0 => assert_eq!((operations.len(), reads, updates.len()), (3, 1, 0)),
+            1 => assert_eq!((operations.len(), reads, updates.len()), (48, 16, 0)),
+            _ => {
+                assert_eq!(updates, [&reply.values[0]]);
+                assert_eq!(operations.len(), 5 + updates[0].1.len() + 3);
+                *set.entry(updates[0].0).or_insert(0) += 1;
+            }
+        }
+    }
+    // Every value that a controller sets, but for the commit.
+    let names: Vec<u16> = set.keys().copied().collect();
+    assert_eq!(names, [3, 4, 5, 6, 7, 0x40, 0x41, 0x42, 0x60, 0x61]);
+    assert!(set.values().all(|count| *count > 50), "{set:?}");
+    let read = replies
+        .iter()
+        .map(|(_, reply)| reply.values.len())
+        .sum::<usize>();
+    assert!(read > 9_000, "{read} values read");
+}
+
+#[test]
+fn empty_frames_follow_one_that_fills_memory() {
+    let stream = stream(Kind::Empty, 7, 1_000);
+    let filling = pieces(&stream, 2).remove(0).1;
+    let (first, rest) = stream.split_at(2 + filling.len());
+    assert_eq!(rest, vec![0; 2 * 999]);
+    let (_, reply) = replies(first).remove(0);
+    let lengths: BTreeMap<u16, usize> = reply
+        .updates
+        .iter()
+        .chain(&reply.long_updates)
+        .map(|(name, value)| (*name, value.len()))
+        .collect();
+    let full = [
+        (0x0003, 1),
+        (0x0004, 10),
+        (0x0005, 4),
+        (0x0006, 448),
+        (0x0007, 8),
+        (0x0040, 1),
+        (0x0041, 1),
+        (0x0042, 255),
+        (0x0060, 1),
+        (0x0061, 255),
+        (0x8001, 4),
+    ];
+    assert_eq!(lengths, BTreeMap::from(full));
+    assert!(reply.update_errors.is_empty());
+    for kind in [Kind::Mixed, Kind::Empty] {
+        assert!(second::traffic::stream(kind, 1, 0).is_empty());
+    }
+}
+
 /// Plays a script on a bench and shows each message, with its room, to `watch` before it is sent.
 fn play(script: &[u8], mut watch: impl FnMut(&Bench, &[u8], usize)) {
     let mut bench = Bench::fresh();
@@ -222,6 +297,10 @@ fn streams_follow_from_their_seed_alone() {
     };
     assert_ne!(digest(Kind::Frames, 1), digest(Kind::Frames, 2));
     assert_ne!(digest(Kind::Script, 1), digest(Kind::Script, 2));
+    assert_ne!(digest(Kind::Mixed, 1), digest(Kind::Mixed, 2));
+    assert_ne!(digest(Kind::Empty, 1), digest(Kind::Empty, 2));
     assert_eq!(digest(Kind::Frames, 1), 0x5399_F764_69FC_26DD);
+    assert_eq!(digest(Kind::Mixed, 1), 0x8F2D_1544_4C08_A106);
+    assert_eq!(digest(Kind::Empty, 1), 0xD944_AA8A_A327_8099);
     assert_eq!(digest(Kind::Script, 1), 0x5C7C_E4AA_7143_8DF6);
 }

@@ -22,23 +22,23 @@ join-requires c κs =
     let a = s .args in
     omega (arith, joined-length (a .base .now) (a .count .now) (a .list .now) (a .ratio .now), s .pre .0, s .pre .1, s .pre .2, s .pre .3)
 
-values-fit-requires : tie.Need-values-fit-requires
-values-fit-requires c κs = search needs
+sub-joined : tie.Need-sub-joined
+sub-joined c = search needs
 
-sub-sums-agree : tie.Need-sub-sums-agree
-sub-sums-agree c = search needs
+part-joined-start : tie.Need-part-joined-start
+part-joined-start c = search needs
 
-part-sums-agree-start : tie.Need-part-sums-agree-start
-part-sums-agree-start c = search needs
-
-part-sums-agree-end : tie.Need-part-sums-agree-end
-part-sums-agree-end c =
-    let s = c .before .before .before .before .before .before .before .before .before .before .before .before in
+part-joined-end : tie.Need-part-joined-end
+part-joined-end c =
+    let s = c .before .before .before .before .before .before .before .before .before .before .before in
     let a = s .args in
     let j = joined-length (a .base .now) (a .count .now) (a .list .now) (a .ratio .now) in
-    let h : c .before .before .before .before .join .result ≤ length (a .block .now) =
-    omega (arith, j, s .pre .0, s .pre .1, s .pre .2, s .pre .3, c .before .before .before .before .join .ensures .0) in
+    let h : c .before .before .before .join .result ≤ length (a .block .now) =
+    omega (arith, j, s .pre .0, s .pre .1, s .pre .2, s .pre .3, c .before .before .before .join .ensures .0) in
     search needs
+
+form-and-fit-requires : tie.Need-form-and-fit-requires
+form-and-fit-requires c κs = search needs
 
 sums-agree-requires : tie.Need-sums-agree-requires
 sums-agree-requires c κs = search needs
@@ -50,25 +50,25 @@ returns : tie.Need-returns
 unfolding agrees every
 returns c =
     let k = c .before .before .before .before .before .before in
-    let s = c .before .before .before .before .before .before .before .before .before .before .before .before .before .before in
-    let a = s .args in
+    let a = c .before .before .before .before .before .before .before .before .before .before .before .before .before .before .args in
     let w = joinedBlock (a .base .now) (a .count .now) (a .list .now) (a .ratio .now) in
     let v = a .value .now in
     let p : take (k .join .result - 0) (k .join .last .1 .1 .1 .1 .0) ≡ w =
     rw (sub-zero, k .join .ensures .0, k .join .ensures .1) (splice-front (a .block .now) w) in
+    let f : c .before .form-and-fit .result ≡ formAndFit w = c .before .form-and-fit .ensures ∙ ap formAndFit p in
     let q : c .sums-agree .result ≡ (eqb (length v) 4 && same v (sums w)) =
     c .sums-agree .ensures ∙ ap (λ (t : List ℕ). eqb (length v) 4 && same v (sums t)) p in
-    (rw (c .before .before .before .values-fit .ensures, q) (in-order (formAndFit w) (eqb (length v) 4) (same v (sums w))), k .join .ensures .1)
+    (rw (f, q) (in-order (formAndFit w) (eqb (length v) 4) (same v (sums w))), k .join .ensures .1)
 
 pub commit-spec : {M : Type 1} → statement M
 commit-spec =
     tie.close
     (tie.spec
     join-requires
-    values-fit-requires
-    sub-sums-agree
-    part-sums-agree-start
-    part-sums-agree-end
+    sub-joined
+    part-joined-start
+    part-joined-end
+    form-and-fit-requires
     sums-agree-requires
     same-length
     returns)

@@ -1,0 +1,2 @@
+-- Laws of frames and of what the program holds.
+pub mod Held

@@ -1,0 +1,3 @@
+-- Laws that the proofs of `command` share, and those of a walk over all operations of a list, which the crates above cite.
+pub mod Sets
+pub mod Walk

@@ -1,0 +1,158 @@
+-- What a set and a read find: lengths of values that sound memory holds, a commit's conditions, causes by the first check that fails.
+use Prim.Native.Nat.{ℕ, zero, suc, _+_, _≤_, _<_}
+use native.Mathlib.Omega.{arith}
+use mathlib.Core.Path.{_≡_, refl, sym, ap, _∙_}
+use mathlib.Core.Logic.{_≢_}
+use mathlib.Core.Bool.{Bool, true, false, cond, not}
+use mathlib.Core.List.{List}
+use lib.ListN.{length, length-take}
+use lib.Seq.{take-all}
+use lib.Dec.{eqb, leb}
+use borrow.Author.Tests.{lt-ltb, le-ltb, ne-eqb}
+use Rattle.meaning.specs.Octets.{every}
+use Rattle.meaning.specs.Checks.{firstFailed, settle}
+use Rattle.meaning.specs.Table.{Row, rows, rowAt, place, listed, byController, entryCount, memoryLength, adminBaseTime, adminControlListLength, adminControlList, adminCycleTime, commit}
+use Rattle.meaning.specs.Block.{permits, joinedBlock, formAndFit}
+use Rattle.meaning.specs.Memory.{cell, room, size, isPresent, present, body, pending, store, remark, fourPresent, sound}
+use Rattle.meaning.specs.Step.{block, commits, permitted, setChecks, stored, setMemory, subscribeMemory, unsubscribeMemory, setAnswer, readChecks, readAnswer, value, readError, update, updateError, shown}
+use Rattle.meaning.specs.Step as step
+use Rattle.meaning.proofs.Tests.{every-at}
+use Rattle.meaning.proofs.Sound.{Sound, opened, entry-of, four-at}
+use Rattle.meaning.proofs.Kept.{permits-length}
+use Rattle.schedule.specs.Rules.{agrees}
+use Rattle.schedule.proofs.Blocks.{commits-agrees, joined-length}
+
+pub long-of : (m : List ℕ) → sound m ≡ true → length m ≡ memoryLength
+long-of m s = opened m s .long
+
+-- a present value keeps its row
+pub body-permitted : (m : List ℕ) (k : ℕ) → sound m ≡ true → k < entryCount → present m k ≡ true → permits (rowAt k) (body m k) ≡ true
+unfolding present body
+body-permitted m k s h p = rw p at (entry-of m (opened m s) k h .held)
+
+-- ---- the four values of a commit
+
+-- a value as long as its room is its room
+pub fills : (m : List ℕ) (k : ℕ) {r : List ℕ} → r ≡ room m k → length r ≡ rowAt k .most → length (body m k) ≡ rowAt k .most → r ≡ body m k
+unfolding body
+fills m k e l b = e ∙ sym (take-all (size (cell m k)) (room m k) (omega (arith, ap length e, l, b, length-take (size (cell m k)) (room m k))))
+
+pub one-length : (rowAt adminBaseTime .most ≡ 10) × (rowAt adminControlListLength .most ≡ 4) × (rowAt adminCycleTime .most ≡ 8)
+unfolding rowAt rows
+one-length = (refl, refl, refl)
+
+pub record FourLengths (m : List ℕ) : Type 0 where
+  pub base : length (body m adminBaseTime) ≡ 10
+  pub count : length (body m adminControlListLength) ≡ 4
+  pub list : length (body m adminControlList) ≤ 448
+  pub ratio : length (body m adminCycleTime) ≡ 8
+
+pub four-lengths : (m : List ℕ) → sound m ≡ true → fourPresent m ≡ true → FourLengths m
+unfolding rowAt rows
+four-lengths m s f =
+    let b = permits-length (rowAt 2) (body m 2) (body-permitted m 2 s (omega arith) (four-at m 0 f)) in
+    let c = permits-length (rowAt 3) (body m 3) (body-permitted m 3 s (omega arith) (four-at m 1 f)) in
+    let l = permits-length (rowAt 4) (body m 4) (body-permitted m 4 s (omega arith) (four-at m 2 f)) in
+    let r = permits-length (rowAt 5) (body m 5) (body-permitted m 5 s (omega arith) (four-at m 3 f)) in
+    record { base = omega (arith, b); count = omega (arith, c); list = l .1; ratio = omega (arith, r) }
+
+pub block-length : (m : List ℕ) → FourLengths m → length (block m) ≡ 22 + length (body m adminControlList)
+unfolding block
+block-length m f =
+    omega (arith, joined-length (body m adminBaseTime) (body m adminControlListLength) (body m adminControlList) (body m adminCycleTime), f .base, f .count, f .ratio)
+
+pub commit-unset : (m v : List ℕ) → fourPresent m ≡ false → commits m v ≡ false
+commit-unset m v e = rw (commits-agrees m v, e)
+
+pub commit-is : (m v : List ℕ) → fourPresent m ≡ true → commits m v ≡ agrees (block m) v
+commit-is m v e = rw (commits-agrees m v, e)
+
+-- four values as they were found make the block
+pub block-found : (m : List ℕ) {b c l r : List ℕ} → b ≡ body m adminBaseTime → c ≡ body m adminControlListLength → l ≡ body m adminControlList → r ≡ body m adminCycleTime
+    → joinedBlock b c l r ≡ block m
+unfolding block
+block-found m hb hc hl hr = rw (hb, hc, hl, hr)
+
+-- a block that a commit stores fits its room
+pub block-in-room : (b : List ℕ) → length b ≤ 470 → length b ≤ rowAt commit .most
+unfolding rowAt rows
+block-in-room b h = h
+
+-- ---- a read
+
+pub read-unlisted : (m : List ℕ) (n : ℕ) → entryCount ≤ place n → readAnswer m n ≡ readError n 0x01
+unfolding readAnswer readChecks firstFailed settle listed
+read-unlisted m n h = rw (le-ltb (place n) entryCount h)
+
+module _ (m : List ℕ) (n : ℕ) (h : place n < entryCount) where
+  pub read-absent : present m (place n) ≡ false → readAnswer m n ≡ readError n 0x03
+  unfolding readAnswer readChecks firstFailed settle listed
+  read-absent e = rw (lt-ltb (place n) entryCount h, e)
+
+  pub read-value : present m (place n) ≡ true → readAnswer m n ≡ value n (shown m (place n))
+  unfolding readAnswer readChecks firstFailed settle listed
+  read-value e = rw (lt-ltb (place n) entryCount h, e)
+
+-- ---- a value put at a place
+
+pub permitted-commit : (m v : List ℕ) (k : ℕ) → k ≡ commit → (permitted m k v ≡ commits m v) × (store m k (stored m k v) ≡ store m commit (block m))
+unfolding permitted stored
+permitted-commit m v k e = rw e (refl, refl)
+
+pub permitted-row : (m v : List ℕ) (k : ℕ) → k ≢ commit → (permitted m k v ≡ permits (rowAt k) v) × (stored m k v ≡ v)
+unfolding permitted stored
+permitted-row m v k e = rw (ne-eqb k commit e) (refl, refl)
+
+-- ---- a set: its cause, and the memory that it leaves
+
+abbrev Set : List ℕ → ℕ → List ℕ → ℕ → List ℕ → Type 0
+Set m n v cause after = (cause ≡ firstFailed (setChecks m n v)) × (after ≡ setMemory m n v)
+
+pub set-unlisted : (m : List ℕ) (n : ℕ) (v : List ℕ) → entryCount ≤ place n → Set m n v 0x01 m
+unfolding setMemory setChecks firstFailed settle listed
+set-unlisted m n v h = rw (le-ltb (place n) entryCount h) (refl, refl)
+
+module _ (m : List ℕ) (n k : ℕ) (v : List ℕ) (e : k ≡ place n) (h : k < entryCount) where
+  pub set-foreign : byController (rowAt k .owner) ≡ false → Set m n v 0x6F m
+  unfolding setMemory setChecks firstFailed settle listed
+  set-foreign o = rw (← e, lt-ltb k entryCount h, o) (refl, refl)
+
+  -- what a value put at the place leaves
+  module _ (o : byController (rowAt k .owner) ≡ true) {t : Bool} {after : List ℕ} (p : t ≡ permitted m k v) (q : after ≡ cond (permitted m k v) (store m k (stored m k v)) m) where
+    pub set-refused : t ≡ false → Set m n v 0x02 after
+    unfolding setMemory setChecks firstFailed settle listed
+    set-refused f = rw (q, ← e, lt-ltb k entryCount h, o, sym p ∙ f) (refl, refl)
+
+    pub set-done : t ≡ true → Set m n v 0 after
+    unfolding setMemory setChecks firstFailed settle listed
+    set-done f = rw (q, ← e, lt-ltb k entryCount h, o, sym p ∙ f) (refl, refl)
+
+-- ---- marks
+
+module _ (m : List ℕ) (n k : ℕ) (e : k ≡ place n) where
+  pub subscribe-listed : {after : List ℕ} {q : Bool} → k < entryCount → q ≡ pending m k → after ≡ remark m k true q → after ≡ subscribeMemory m n
+  unfolding subscribeMemory listed
+  subscribe-listed h q r = r ∙ rw (q, ← e, lt-ltb k entryCount h)
+
+  pub subscribe-unlisted : entryCount ≤ k → m ≡ subscribeMemory m n
+  unfolding subscribeMemory listed
+  subscribe-unlisted h = rw (← e, le-ltb k entryCount h)
+
+  pub unsubscribe-listed : {after : List ℕ} → k < entryCount → after ≡ remark m k false false → after ≡ unsubscribeMemory m n
+  unfolding unsubscribeMemory listed
+  unsubscribe-listed h r = r ∙ rw (← e, lt-ltb k entryCount h)
+
+  pub unsubscribe-unlisted : entryCount ≤ k → m ≡ unsubscribeMemory m n
+  unfolding unsubscribeMemory listed
+  unsubscribe-unlisted h = rw (← e, le-ltb k entryCount h)
+
+-- ---- the answer to a set, by its cause
+
+pub answer-update : (m : List ℕ) (n : ℕ) (v : List ℕ) → firstFailed (setChecks m n v) ≡ 0 → setAnswer m n v ≡ update n v
+unfolding setAnswer settle
+answer-update m n v e = rw e
+
+pub answer-cause : (m : List ℕ) (n cause : ℕ) (v : List ℕ) → cause ≡ firstFailed (setChecks m n v) → cause ≢ 0 → setAnswer m n v ≡ updateError n cause
+unfolding setAnswer settle
+answer-cause m n zero v e h = absurd (h refl)
+answer-cause m n (suc cause) v e h = rw (← e)

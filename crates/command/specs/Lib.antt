@@ -1,0 +1,2 @@
+-- What the contracts of `command` cite beside `meaning`.
+pub mod Answers

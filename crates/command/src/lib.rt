@@ -1,0 +1,147 @@
+// One operation of a command carried out on the working copy: the memory that it leaves and the answer that it gives.
+// Both are those of `meaning`, for sound memory.
+ghost use Prim.Native.Nat.{_<_};
+ghost use mathlib.Core.Path.{_≡_};
+ghost use mathlib.Core.Bool.{true, cond};
+ghost use lib.ListN.{length};
+ghost use Rattle.meaning.specs.Checks.{firstFailed};
+ghost use Rattle.meaning.specs.Table.{memoryLength, entryCount, commit};
+ghost use Rattle.meaning.specs.Memory.{sound, store};
+ghost use Rattle.meaning.specs.Step.{block, commits, permitted, setChecks, stored, setMemory, subscribeMemory, unsubscribeMemory, step, answer};
+ghost use Rattle.operation.specs.Handing.{opOf, Inside};
+ghost use Rattle.command.specs.Answers.{answerOf, Told, AnswersRead};
+use operation::Op;
+
+// An answer: all names; a value or a cause to a read; a value or a cause to a set; no record. The value of a read lies in
+// the memory, at a place of the table; that of a set in the list: where it starts, and its length.
+pub enum Answer {
+    Names,
+    Value(usize, usize),
+    ReadError(usize, u8),
+    Update(usize, usize, usize),
+    UpdateError(usize, u8),
+    Silent,
+}
+
+// A read: cause 01 for a name not in the table, 03 for an absent value.
+fn read(m: &[u8], name: usize) -> Answer
+    requires { ⌜ (length (now m) ≡ memoryLength) × (name < 65536) ⌝ }
+    ensures { λ r. ⌜ AnswersRead (now (m .entry)) name r ⌝ }
+{
+    let k = table::place_of(name);
+    if table::ENTRY_COUNT <= k {
+        return Answer::ReadError(name, 0x01);
+    }
+    if !memory::present(m, k) {
+        return Answer::ReadError(name, 0x03);
+    }
+    Answer::Value(name, k)
+}
+
+// A commit: the running block becomes the block of the four values, where every condition is met. A present value of one
+// length fills its room, so three of the values are read as rooms, whose lengths the compiler knows.
+fn put_commit(m: &mut [u8], v: &[u8]) -> bool
+    requires { ⌜ sound (now m) ≡ true ⌝ }
+    ensures { λ r. ⌜ (r ≡ commits (now (m .entry)) (now (v .entry))) × (now (m .exit) ≡ cond (commits (now (m .entry)) (now (v .entry))) (store (now (m .entry)) commit (block (now (m .entry)))) (now (m .entry))) ⌝ }
+{
+    if !memory::four_present(m) {
+        return false;
+    }
+    let base = memory::room(m, table::ADMIN_BASE_TIME);
+    let count = memory::room(m, table::ADMIN_CONTROL_LIST_LENGTH);
+    let list = memory::body(m, table::ADMIN_CONTROL_LIST);
+    let ratio = memory::room(m, table::ADMIN_CYCLE_TIME);
+    let mut joined = [0u8; 470];
+    let n = 22 + list.len();
+    if !schedule::commit(base, count, list, ratio, v, &mut joined) {
+        return false;
+    }
+    memory::store(m, table::COMMIT, &joined[0..n]);
+    true
+}
+
+// A value put at a place, where its row or, for 8001, a commit's conditions permit it.
+fn put_value(m: &mut [u8], k: usize, v: &[u8]) -> bool
+    requires { ⌜ (sound (now m) ≡ true) × (k < entryCount) ⌝ }
+    ensures { λ r. ⌜ (r ≡ permitted (now (m .entry)) k (now (v .entry))) × (now (m .exit) ≡ cond (permitted (now (m .entry)) k (now (v .entry))) (store (now (m .entry)) k (stored (now (m .entry)) k (now (v .entry)))) (now (m .entry))) ⌝ }
+{
+    if k == table::COMMIT {
+        return put_commit(m, v);
+    }
+    if !table::permits(k, v) {
+        return false;
+    }
+    memory::store(m, k, v);
+    true
+}
+
+// A set: its cause, 0 where it succeeds.
+fn set(m: &mut [u8], name: usize, v: &[u8]) -> u8
+    requires { ⌜ sound (now m) ≡ true ⌝ }
+    ensures { λ r. ⌜ (r ≡ firstFailed (setChecks (now (m .entry)) name (now (v .entry)))) × (now (m .exit) ≡ setMemory (now (m .entry)) name (now (v .entry))) ⌝ }
+{
+    let k = table::place_of(name);
+    if table::ENTRY_COUNT <= k {
+        return 0x01;
+    }
+    let row = table::row_at(k);
+    let owner = row.owner;
+    if !table::by_controller(owner) {
+        return 0x6F;
+    }
+    if !put_value(m, k, v) {
+        return 0x02;
+    }
+    0
+}
+
+// The mark set; nothing on an unlisted name.
+fn subscribe(m: &mut [u8], name: usize)
+    requires { ⌜ length (now m) ≡ memoryLength ⌝ }
+    ensures { λ _. ⌜ now (m .exit) ≡ subscribeMemory (now (m .entry)) name ⌝ }
+{
+    let k = table::place_of(name);
+    if k < table::ENTRY_COUNT {
+        let q = memory::pending(m, k);
+        memory::remark(m, k, true, q);
+    }
+}
+
+// Both marks cleared; nothing on an unlisted name.
+fn unsubscribe(m: &mut [u8], name: usize)
+    requires { ⌜ length (now m) ≡ memoryLength ⌝ }
+    ensures { λ _. ⌜ now (m .exit) ≡ unsubscribeMemory (now (m .entry)) name ⌝ }
+{
+    let k = table::place_of(name);
+    if k < table::ENTRY_COUNT {
+        memory::remark(m, k, false, false);
+    }
+}
+
+// An operation of a list carried out.
+pub fn carry_out(m: &mut [u8], list: &[u8], op: Op) -> Answer
+    requires { ⌜ (sound (now m) ≡ true) × Inside (length (now list)) op ⌝ }
+    ensures { λ _. ⌜ now (m .exit) ≡ step (now (m .entry)) (opOf (now (list .entry)) op) ⌝ }
+    ensures { λ r. ⌜ (answerOf (now (m .exit)) (now (list .entry)) r ≡ answer (now (m .entry)) (opOf (now (list .entry)) op)) × Told (length (now (list .entry))) r ⌝ }
+{
+    match op {
+        Op::Capabilities => Answer::Names,
+        Op::Read(name) => read(m, name),
+        Op::Set(name, from, size) => {
+            let cause = set(m, name, &list[from..from + size]);
+            if cause == 0 {
+                Answer::Update(name, from, size)
+            } else {
+                Answer::UpdateError(name, cause)
+            }
+        }
+        Op::Subscribe(name) => {
+            subscribe(m, name);
+            Answer::Silent
+        }
+        Op::Unsubscribe(name) => {
+            unsubscribe(m, name);
+            Answer::Silent
+        }
+    }
+}

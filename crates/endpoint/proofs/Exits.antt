@@ -1,0 +1,110 @@
+-- One law for each way out of a call: what the definition gives there.
+use Prim.Native.Nat.{ℕ, _+_, _-_, _≤_, _<_}
+use native.Mathlib.Omega.{arith}
+use mathlib.Core.Path.{_≡_, refl, sym, ap, _∙_}
+use mathlib.Core.Logic.{_≢_, inl, inr}
+use mathlib.Core.Bool.{Bool, true, false, _||_, cond, false≢true}
+use mathlib.Core.Option.{Option, none, some}
+use mathlib.Core.List.{List, [], _∷_, _++_}
+use lib.ListN.{length, take, drop, set}
+use types.Run.{OneOf, miss}
+use denote.Enum.Declared.{tagOf}
+use lib.Dec.{eqb, leb}
+use borrow.Author.Tests.{le-leb, lt-leb, eq-eqb}
+use Rattle.meaning.specs.Octets.{octet, at16, part, implies, every}
+use Rattle.meaning.specs.Checks.{Checks, passed, check, firstFailed, settle}
+use Rattle.meaning.specs.Memory.{waiting, setClock, sound}
+use Rattle.meaning.specs.Operation.{Op, parse, isSome, orNone}
+use Rattle.meaning.specs.Step.{after}
+use Rattle.meaning.specs.Reply.{complete}
+use Rattle.meaning.specs.Calls.{done, told, call, isCommand, isAcknowledgement, lengthField, operations, opsOf, lengthRight, records, carriedOut, acknowledged, deed, fits, messageChecks, message}
+use Rattle.meaning.specs.Calls as calls
+use Rattle.meaning.proofs.Numbers.{Taken, Measured, length-right}
+use Rattle.octets.proofs.Splices.{part-is}
+use Rattle.endpoint.specs.declared.Outcome.{Outcome}
+use Rattle.endpoint.specs.declared.Outcome.the-variants.{Done, MemoryUnsound, MessageEmpty, MessageTooLong, TypeUnknown, LengthWrong, OperationMalformed, NoRoom, Idle, NothingPending, AlreadyWaiting, RoomTooSmall, NotPermitted, SendAgain, GivenUp}
+use Rattle.endpoint.proofs.Outcome.{the-type}
+use Rattle.endpoint.specs.Outcomes.{numberOf, lengthOf, Gives, reply, command, acknowledgement}
+
+-- a refusal: the number, and nothing changed
+pub gives-told : (m room : List ℕ) (n : ℕ) (r : Outcome) {o : calls.Outcome} → o ≡ told n m room → numberOf r ≡ n → lengthOf r ≡ 0 → Gives o r m room
+gives-told m room n r e a b = rw e (record { number = a; written = b; memoryIs = refl; roomIs = refl })
+
+pub gives-done : (w m room : List ℕ) (n : ℕ) {o : calls.Outcome} {m′ room′ : List ℕ} → o ≡ done w m room → n ≡ length w → m′ ≡ m → room′ ≡ w ++ drop (length w) room
+    → Gives o (Done n) m′ room′
+unfolding numberOf lengthOf
+gives-done w m room n e a b c = rw e (record { number = refl; written = a; memoryIs = b; roomIs = c })
+
+-- ---- a whole list of operations
+
+module _ (m list room : List ℕ) where
+  pub command-fits : fits (length room) (carriedOut m (orNone (parse list))) ≡ true
+      → command m list room ≡ done (complete (records m (orNone (parse list)))) (after m (orNone (parse list))) room
+  unfolding command reply call firstFailed settle carriedOut
+  command-fits e = rw e
+
+  pub command-7 : fits (length room) (carriedOut m (orNone (parse list))) ≡ false → command m list room ≡ told 7 m room
+  unfolding command reply call firstFailed settle
+  command-7 e = rw e
+
+-- ---- an acknowledgement
+
+module _ (m room : List ℕ) where
+  pub acknowledgement-8 : waiting m ≡ false → acknowledgement m room ≡ told 8 m room
+  unfolding acknowledgement call firstFailed settle
+  acknowledgement-8 e = rw e
+
+  pub acknowledgement-7 : waiting m ≡ true → length room < 1 → acknowledgement m room ≡ told 7 m room
+  unfolding acknowledgement call firstFailed settle fits acknowledged every
+  acknowledgement-7 e h = rw (e, lt-leb 1 (length room) h)
+
+  pub acknowledgement-fits : waiting m ≡ true → 1 ≤ length room → acknowledgement m room ≡ done (5 ∷ []) (setClock m 0 0) room
+  unfolding acknowledgement call firstFailed settle fits acknowledged every
+  acknowledgement-fits e h = rw (e, le-leb 1 (length room) h)
+
+-- ---- a message, once the checks before have passed
+
+-- the list of operations as it is lent on
+pub list-is : (s : List ℕ) (n : ℕ) → n ≡ at16 s 1 → take (3 + n - 3) (drop 3 s) ≡ operations s
+unfolding operations lengthField
+list-is s n e = part-is s 3 n ∙ ap (part s 3) e
+
+-- a list that is not whole has no operations
+pub not-whole : (p : Option (List Op)) → isSome p ≡ false → p ≡ none
+not-whole none e = refl
+not-whole (some os) e = absurd (false≢true (sym e))
+
+module _ (m s room : List ℕ) where
+  pub message-acknowledgement : Taken m s → octet s 0 ≡ 4 → message m s room ≡ acknowledgement m room
+  unfolding message messageChecks acknowledgement call firstFailed isCommand isAcknowledgement implies deed
+  message-acknowledgement t e = simp (t .isSound, le-leb 1 (length s) (t .nonzero), le-leb (length s) 2048 (t .short), e)
+
+  pub message-command : Measured m s → isSome (parse (operations s)) ≡ true → message m s room ≡ command m (operations s) room
+  unfolding message messageChecks command reply call firstFailed isCommand isAcknowledgement implies deed opsOf
+  message-command l w =
+      simp (l .taken .isSound, le-leb 1 (length s) (l .taken .nonzero), le-leb (length s) 2048 (l .taken .short), l .type, length-right m s l, w)
+
+-- ---- what is said of an outcome
+
+pub nothing-written : (r : Outcome) → OneOf (1 ∷ 2 ∷ 3 ∷ 4 ∷ 5 ∷ 6 ∷ 7 ∷ 8 ∷ 9 ∷ 10 ∷ 11 ∷ 12 ∷ 13 ∷ 14 ∷ []) (tagOf the-type r) → lengthOf r ≡ 0
+unfolding lengthOf
+nothing-written (Done n) t = absurd (miss (1 ∷ 2 ∷ 3 ∷ 4 ∷ 5 ∷ 6 ∷ 7 ∷ 8 ∷ 9 ∷ 10 ∷ 11 ∷ 12 ∷ 13 ∷ 14 ∷ []) 0 tt t)
+nothing-written MemoryUnsound t = refl
+nothing-written MessageEmpty t = refl
+nothing-written MessageTooLong t = refl
+nothing-written TypeUnknown t = refl
+nothing-written LengthWrong t = refl
+nothing-written OperationMalformed t = refl
+nothing-written NoRoom t = refl
+nothing-written Idle t = refl
+nothing-written NothingPending t = refl
+nothing-written AlreadyWaiting t = refl
+nothing-written RoomTooSmall t = refl
+nothing-written NotPermitted t = refl
+nothing-written SendAgain t = refl
+nothing-written GivenUp t = refl
+
+-- one octet written at the room's start
+pub first-set : (room : List ℕ) (x : ℕ) → 1 ≤ length room → set room 0 x ≡ (x ∷ []) ++ drop 1 room
+first-set [] x h = absurd (omega (arith, h))
+first-set (y ∷ room) x h = refl

@@ -1,0 +1,2 @@
+-- What the contracts of `endpoint` cite beside `meaning`.
+pub mod Outcomes

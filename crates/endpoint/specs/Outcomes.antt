@@ -1,0 +1,66 @@
+-- The number and the length of each outcome, and what it means that a call gives what a definition says.
+use Prim.Native.Nat.{ℕ}
+use mathlib.Core.Path.{_≡_}
+use mathlib.Core.List.{List}
+use lib.ListN.{length}
+use Rattle.meaning.specs.Checks.{passed, check}
+use Rattle.meaning.specs.Memory.{waiting}
+use Rattle.meaning.specs.Operation.{parse, orNone}
+use Rattle.meaning.specs.Calls.{Deed, done, call, carriedOut, acknowledged, fits}
+use Rattle.meaning.specs.Calls as calls
+use Rattle.endpoint.specs.declared.Outcome.{Outcome}
+use Rattle.endpoint.specs.declared.Outcome.the-variants.{Done, MemoryUnsound, MessageEmpty, MessageTooLong, TypeUnknown, LengthWrong, OperationMalformed, NoRoom, Idle, NothingPending, AlreadyWaiting, RoomTooSmall, NotPermitted, SendAgain, GivenUp}
+
+unfoldable pub numberOf : Outcome → ℕ
+numberOf (Done n) = 0
+numberOf MemoryUnsound = 1
+numberOf MessageEmpty = 2
+numberOf MessageTooLong = 3
+numberOf TypeUnknown = 4
+numberOf LengthWrong = 5
+numberOf OperationMalformed = 6
+numberOf NoRoom = 7
+numberOf Idle = 8
+numberOf NothingPending = 9
+numberOf AlreadyWaiting = 10
+numberOf RoomTooSmall = 11
+numberOf NotPermitted = 12
+numberOf SendAgain = 20
+numberOf GivenUp = 21
+
+unfoldable pub lengthOf : Outcome → ℕ
+lengthOf (Done n) = n
+lengthOf MemoryUnsound = 0
+lengthOf MessageEmpty = 0
+lengthOf MessageTooLong = 0
+lengthOf TypeUnknown = 0
+lengthOf LengthWrong = 0
+lengthOf OperationMalformed = 0
+lengthOf NoRoom = 0
+lengthOf Idle = 0
+lengthOf NothingPending = 0
+lengthOf AlreadyWaiting = 0
+lengthOf RoomTooSmall = 0
+lengthOf NotPermitted = 0
+lengthOf SendAgain = 0
+lengthOf GivenUp = 0
+
+-- A call that answered r and left this memory and this room gives the outcome o. What was written stands at the room's start.
+pub record Gives (o : calls.Outcome) (r : Outcome) (memory room : List ℕ) : Type 0 where
+  pub number : numberOf r ≡ o .number
+  pub written : lengthOf r ≡ length (o .written)
+  pub memoryIs : memory ≡ o .memory
+  pub roomIs : room ≡ o .room
+
+-- what is left to decide once a message's checks before it have passed: its reply fits
+
+unfoldable pub reply : Deed → List ℕ → List ℕ → calls.Outcome
+reply d m room = call (check 7 (fits (length room) d) passed) (done (d .reply) (d .memory) room) m room
+
+-- a whole list of operations
+unfoldable pub command : List ℕ → List ℕ → List ℕ → calls.Outcome
+command m list room = reply (carriedOut m (orNone (parse list))) m room
+
+-- an acknowledgement
+unfoldable pub acknowledgement : List ℕ → List ℕ → calls.Outcome
+acknowledgement m room = call (check 8 (waiting m) (check 7 (fits (length room) (acknowledged m)) passed)) (done (acknowledged m .reply) (acknowledged m .memory) room) m room

@@ -1,0 +1,139 @@
+// The endpoint of a port: what a host calls. A call is lent the port's memory, 2,100 octets that the host keeps, and where
+// there is one the room for a reply. Any lengths and any octets may be lent: a call that refuses them says so by its
+// outcome and changes nothing. What a call answers and what it leaves in each lent octet is a definition of `meaning`.
+ghost use Prim.Native.Nat.{_≤_};
+ghost use mathlib.Core.Path.{_≡_};
+ghost use mathlib.Core.Bool.{true};
+ghost use lib.ListN.{length};
+ghost use Rattle.meaning.specs.Octets.{octet};
+ghost use Rattle.meaning.specs.Memory.{sound};
+ghost use Rattle.meaning.specs.Operation.{parse, isSome};
+ghost use Rattle.meaning.specs.Calls.{message};
+ghost use Rattle.endpoint.specs.Outcomes.{numberOf, lengthOf, Gives, acknowledgement, command};
+
+// What a call answers: done, with the length of what it wrote, or why nothing was done. A waiting notification is to be
+// sent again, or has been given up.
+pub enum Outcome {
+    Done(usize),
+    MemoryUnsound,
+    MessageEmpty,
+    MessageTooLong,
+    TypeUnknown,
+    LengthWrong,
+    OperationMalformed,
+    NoRoom,
+    Idle,
+    NothingPending,
+    AlreadyWaiting,
+    RoomTooSmall,
+    NotPermitted,
+    SendAgain,
+    GivenUp,
+}
+
+// The number of an outcome.
+pub fn number(outcome: Outcome) -> usize
+    ensures { λ r. ⌜ r ≡ numberOf outcome ⌝ }
+{
+    match outcome {
+        Outcome::Done(_) => 0,
+        Outcome::MemoryUnsound => 1,
+        Outcome::MessageEmpty => 2,
+        Outcome::MessageTooLong => 3,
+        Outcome::TypeUnknown => 4,
+        Outcome::LengthWrong => 5,
+        Outcome::OperationMalformed => 6,
+        Outcome::NoRoom => 7,
+        Outcome::Idle => 8,
+        Outcome::NothingPending => 9,
+        Outcome::AlreadyWaiting => 10,
+        Outcome::RoomTooSmall => 11,
+        Outcome::NotPermitted => 12,
+        Outcome::SendAgain => 20,
+        Outcome::GivenUp => 21,
+    }
+}
+
+// The length of what an outcome's call wrote; 0 where it wrote nothing.
+pub fn written(outcome: Outcome) -> usize
+    ensures { λ r. ⌜ r ≡ lengthOf outcome ⌝ }
+{
+    let Outcome::Done(n) = outcome else {
+        return 0;
+    };
+    n
+}
+
+// An acknowledgement: the reply 05 and idle while waiting.
+fn acknowledge(memory: &mut [u8], room: &mut [u8]) -> Outcome
+    requires { ⌜ sound (now memory) ≡ true ⌝ }
+    ensures { λ r. ⌜ Gives (acknowledgement (now (memory .entry)) (now (room .entry))) r (now (memory .exit)) (now (room .exit)) ⌝ }
+{
+    if !memory::waiting(memory) {
+        return Outcome::Idle;
+    }
+    if room.len() < 1 {
+        return Outcome::NoRoom;
+    }
+    room[0] = 5;
+    memory::set_clock(memory, 0, 0);
+    Outcome::Done(1)
+}
+
+// A whole list of operations, carried out on a working copy; the copy becomes the memory when the reply is known to fit.
+fn carry_out(memory: &mut [u8], list: &[u8], room: &mut [u8]) -> Outcome
+    requires { ⌜ (sound (now memory) ≡ true) × (isSome (parse (now list)) ≡ true) × (length (now list) ≤ 2048) ⌝ }
+    ensures { λ r. ⌜ Gives (command (now (memory .entry)) (now (list .entry)) (now (room .entry))) r (now (memory .exit)) (now (room .exit)) ⌝ }
+{
+    let mut copy = [0u8; 2100];
+    let t = tally::take(memory, list, &mut copy);
+    let n = tally::reply_length(t);
+    if !tally::fits(t, n, room.len()) {
+        return Outcome::NoRoom;
+    }
+    reply::write(memory, list, t, &mut copy, room);
+    bytes::copy(&copy, memory);
+    Outcome::Done(n)
+}
+
+// A message of type 01: its length, and whether every operation is whole.
+fn take_command(memory: &mut [u8], sent: &[u8], room: &mut [u8]) -> Outcome
+    requires { ⌜ (sound (now memory) ≡ true) × (1 ≤ length (now sent)) × (length (now sent) ≤ 2048) × (octet (now sent) 0 ≡ 1) ⌝ }
+    ensures { λ r. ⌜ Gives (message (now (memory .entry)) (now (sent .entry)) (now (room .entry))) r (now (memory .exit)) (now (room .exit)) ⌝ }
+{
+    if sent.len() < 3 {
+        return Outcome::LengthWrong;
+    }
+    let n = octets::get16(sent, 1);
+    if n == 0 {
+        return Outcome::LengthWrong;
+    }
+    if sent.len() < 3 + n {
+        return Outcome::LengthWrong;
+    }
+    let list = &sent[3..3 + n];
+    if !operation::whole(list) {
+        return Outcome::OperationMalformed;
+    }
+    carry_out(memory, list, room)
+}
+
+// A message taken: a command or an acknowledgement.
+pub fn message(memory: &mut [u8], sent: &[u8], room: &mut [u8]) -> Outcome
+    ensures { λ r. ⌜ Gives (message (now (memory .entry)) (now (sent .entry)) (now (room .entry))) r (now (memory .exit)) (now (room .exit)) ⌝ }
+{
+    if !soundness::sound(memory) {
+        return Outcome::MemoryUnsound;
+    }
+    if sent.len() < 1 {
+        return Outcome::MessageEmpty;
+    }
+    if 2048 < sent.len() {
+        return Outcome::MessageTooLong;
+    }
+    match sent[0] {
+        1 => take_command(memory, sent, room),
+        4 => acknowledge(memory, room),
+        _ => Outcome::TypeUnknown,
+    }
+}

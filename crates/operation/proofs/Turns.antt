@@ -1,0 +1,69 @@
+-- One turn of a loop over the operations of a list: what is parsed from a position, by what the position hands out.
+use Prim.Native.Nat.{ℕ}
+use mathlib.Core.Path.{_≡_, refl, sym, ap, _∙_}
+use mathlib.Core.Bool.{true, false≢true}
+use mathlib.Core.List.{List, [], _∷_}
+use mathlib.Core.Option.{Option, none, some}
+use lib.ListN.{length, drop}
+use Rattle.meaning.specs.Operation.{follow, more, parse, isSome, orNone}
+use Rattle.meaning.specs.Operation as operation
+use Rattle.meaning.proofs.Encode.{parse-step, parse-nil}
+use Rattle.operation.specs.declared.Op.{Op}
+use Rattle.operation.specs.declared.Handed.{Handed}
+use Rattle.operation.specs.declared.Handed.the-variants.{Operation, Malformed, End}
+use Rattle.operation.specs.Handing.{opOf, Handing, ended, found, first, handing, Reached}
+
+-- what `hand_out` says of its result
+abbrev pub HandsOut : List ℕ → ℕ → Handed → Type 0
+HandsOut s at r = (handing s r ≡ first (drop at s)) × Reached (length s) at r
+
+-- what is parsed where the first operation is known
+unfoldable parsed : Handing → Option (List operation.Op)
+parsed ended = some []
+parsed (found nx) = follow nx parse
+
+parse-first : (s : List ℕ) → parse s ≡ parsed (first s)
+unfolding parsed first
+parse-first [] = parse-nil
+parse-first (c ∷ s) = parse-step c s
+
+parse-handing : (s : List ℕ) (at : ℕ) (r : Handed) → handing s r ≡ first (drop at s) → parse (drop at s) ≡ parsed (handing s r)
+parse-handing s at r e = parse-first (drop at s) ∙ ap parsed (sym e)
+
+-- an operation: the rest is parsed from the position after it
+pub turn : (s : List ℕ) (at next : ℕ) (o : Op) → handing s (Operation o next) ≡ first (drop at s)
+    → parse (drop at s) ≡ more (opOf s o) (parse (drop next s))
+unfolding parsed handing follow
+turn s at next o e = parse-handing s at (Operation o next) e
+
+pub turn-malformed : (s : List ℕ) (at : ℕ) → handing s Malformed ≡ first (drop at s) → parse (drop at s) ≡ none
+unfolding parsed handing follow
+turn-malformed s at e = parse-handing s at Malformed e
+
+pub turn-end : (s : List ℕ) (at : ℕ) → handing s End ≡ first (drop at s) → parse (drop at s) ≡ some []
+unfolding parsed handing
+turn-end s at e = parse-handing s at End e
+
+more-some : (o : operation.Op) (p : Option (List operation.Op)) → isSome (more o p) ≡ isSome p
+unfolding more
+more-some o none = refl
+more-some o (some os) = refl
+
+more-ops : (o : operation.Op) (p : Option (List operation.Op)) → isSome (more o p) ≡ true → orNone (more o p) ≡ o ∷ orNone p
+unfolding more
+more-ops o none e = absurd (false≢true e)
+more-ops o (some os) e = refl
+
+module _ (s : List ℕ) (at next : ℕ) (o : Op) (e : handing s (Operation o next) ≡ first (drop at s)) where
+  -- the octets from here are whole where those after the operation are
+  pub turn-some : isSome (parse (drop at s)) ≡ isSome (parse (drop next s))
+  turn-some = ap isSome (turn s at next o e) ∙ more-some (opOf s o) (parse (drop next s))
+
+  pub turn-whole : isSome (parse (drop at s)) ≡ true → isSome (parse (drop next s)) ≡ true
+  turn-whole w = sym turn-some ∙ w
+
+  -- the operations from here are this one and those after it
+  pub turn-ops : isSome (parse (drop at s)) ≡ true → orNone (parse (drop at s)) ≡ opOf s o ∷ orNone (parse (drop next s))
+  turn-ops w =
+      ap orNone (turn s at next o e)
+      ∙ more-ops (opOf s o) (parse (drop next s)) (sym (ap isSome (turn s at next o e)) ∙ w)

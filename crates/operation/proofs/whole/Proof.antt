@@ -1,0 +1,67 @@
+-- `operation::whole` meets its contract. The octets from the position on are whole where the list is.
+use Prim.Native.Nat.{_≤_, _-_}
+use native.Mathlib.Omega.{arith}
+use mathlib.Core.Path.{_≡_, refl, sym, ap, _∙_, subst}
+use lib.ListN.{length, drop}
+use borrow.Author.Needs.{needs}
+use Rattle.meaning.specs.Operation.{parse, isSome}
+use Rattle.operation.proofs.Turns.{turn-some, turn-malformed, turn-end, HandsOut}
+use Rattle.operation.proofs.whole.Statement.{statement}
+use Rattle.operation.proofs.whole.Tie as tie
+
+abbrev Inv-loop : tie.InvT-loop
+Inv-loop list at₀ at = (at ≤ length list) × (isSome (parse (drop at list)) ≡ isSome (parse list))
+
+abbrev μ-loop : tie.MeasureT-loop
+μ-loop list at₀ at = length list - at
+
+loop-holds : tie.Need-loop-holds Inv-loop μ-loop
+loop-holds c = (omega arith, refl)
+
+hand-out-requires : tie.Need-hand-out-requires Inv-loop μ-loop
+hand-out-requires c κs = search needs
+
+enum-known-next : tie.Need-enum-known-next Inv-loop μ-loop
+enum-known-next c = search needs
+
+loop-less : tie.Need-loop-less Inv-loop μ-loop
+loop-less c =
+    let h = subst (HandsOut _ _) (c .before .next .given .1) (c .before .before .before .hand-out .ensures) in
+    omega (arith, h .1 .0, h .1 .1)
+
+loop-again : tie.Need-loop-again Inv-loop μ-loop
+loop-again c =
+    let h = subst (HandsOut _ _) (c .before .next .given .1) (c .before .before .before .hand-out .ensures) in
+    (h .1 .1, sym (turn-some _ (c .before .before .before .before .loop .at) _ _ (h .0)) ∙ c .before .before .before .before .loop .inv .1)
+
+enum-told : tie.Need-enum-told Inv-loop μ-loop
+enum-told c = search needs
+
+returns : tie.Need-returns Inv-loop μ-loop
+returns c =
+    let h = subst (HandsOut _ _) (c .enum-told .given .1) (c .before .before .hand-out .ensures) in
+    sym (ap isSome (turn-malformed _ (c .before .before .before .loop .at) (h .0))) ∙ c .before .before .before .loop .inv .1
+
+enum-told-2 : tie.Need-enum-told-2 Inv-loop μ-loop
+enum-told-2 c = search needs
+
+returns-2 : tie.Need-returns-2 Inv-loop μ-loop
+returns-2 c =
+    let h = subst (HandsOut _ _) (c .enum-told2 .given .1) (c .before .before .hand-out .ensures) in
+    sym (ap isSome (turn-end _ (c .before .before .before .loop .at) (h .0))) ∙ c .before .before .before .loop .inv .1
+
+pub whole-spec : {M : Type 1} → statement M
+whole-spec =
+    tie.close
+    (tie.spec
+    Inv-loop
+    μ-loop
+    loop-holds
+    hand-out-requires
+    enum-known-next
+    loop-less
+    loop-again
+    enum-told
+    returns
+    enum-told-2
+    returns-2)

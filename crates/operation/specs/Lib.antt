@@ -1,0 +1,2 @@
+-- What the contracts of `operation` cite beside `meaning`.
+pub mod Handing

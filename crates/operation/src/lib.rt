@@ -1,0 +1,73 @@
+// The operations of a command, handed out one after another from its list of octets, and whether a list is whole.
+// What is handed out is what `meaning` finds at the position.
+ghost use mathlib.Core.Path.{_≡_};
+ghost use lib.ListN.{length, drop};
+ghost use Rattle.meaning.specs.Operation.{parse, isSome};
+ghost use Rattle.operation.specs.Handing.{first, handing, Reached};
+
+// An operation. The value of a set lies in the list: where it starts, and its length.
+pub enum Op {
+    Capabilities,
+    Read(usize),
+    Set(usize, usize, usize),
+    Subscribe(usize),
+    Unsubscribe(usize),
+}
+
+// What a list hands out at a position: an operation and the position after it, one that is malformed or cut short, the end.
+pub enum Handed {
+    Operation(Op, usize),
+    Malformed,
+    End,
+}
+
+// What a list hands out at a position; the end for every position past its last octet.
+pub fn hand_out(list: &[u8], at: usize) -> Handed
+    ensures { λ r. ⌜ (handing (now (list .entry)) r ≡ first (drop at (now (list .entry)))) × Reached (length (now (list .entry))) at r ⌝ }
+{
+    if list.len() <= at {
+        return Handed::End;
+    }
+    let left = list.len() - at;
+    let code = list[at];
+    if code == 1 {
+        let op = Op::Capabilities;
+        return Handed::Operation(op, at + 1);
+    }
+    if left < 3 {
+        return Handed::Malformed;
+    }
+    let name = octets::get16(list, at + 1);
+    if code == 3 {
+        if left < 5 {
+            return Handed::Malformed;
+        }
+        let size = octets::get16(list, at + 3);
+        if left < 5 + size {
+            return Handed::Malformed;
+        }
+        let op = Op::Set(name, at + 5, size);
+        return Handed::Operation(op, at + 5 + size);
+    }
+    let op = match code {
+        2 => Op::Read(name),
+        4 => Op::Subscribe(name),
+        5 => Op::Unsubscribe(name),
+        _ => return Handed::Malformed,
+    };
+    Handed::Operation(op, at + 3)
+}
+
+// Whether each octet of a list belongs to a whole operation.
+pub fn whole(list: &[u8]) -> bool
+    ensures { λ r. ⌜ r ≡ isSome (parse (now (list .entry))) ⌝ }
+{
+    let mut at: usize = 0;
+    loop {
+        match hand_out(list, at) {
+            Handed::Operation(_, next) => at = next,
+            Handed::Malformed => return false,
+            Handed::End => return true,
+        }
+    }
+}

@@ -1,0 +1,3 @@
+-- Laws of the records' lengths, and of what the functions leave in a room.
+pub mod Lengths
+pub mod Written

@@ -1,0 +1,86 @@
+-- What a record's octets, written one behind another, leave in a room: the room with the record in it.
+use Prim.Native.Nat.{ℕ, suc, _+_, _*_, _≤_, _<_}
+use native.Mathlib.Omega.{arith}
+use native.Mathlib.Numerals.{add-one}
+use mathlib.Core.Path.{_≡_, refl, sym, ap, _∙_}
+use mathlib.Core.List.{List, [], _∷_, _++_, append-assoc}
+use lib.ListN.{length, take, drop, set, take-append-drop}
+use lib.Seq.{sets-eq, take-suc, length-take-le}
+use Rattle.meaning.specs.Octets.{be16, flat, splice}
+use Rattle.meaning.specs.Table.{row, nobody, free, rows, rowAt}
+use Rattle.meaning.specs.Reply.{heldOctets, shortOctets, failedOctets, allNames}
+use Rattle.meaning.proofs.Lists.{flat-append}
+use Rattle.octets.proofs.Splices.{then}
+use Rattle.records.proofs.Lengths.{nameOctets, some-names-length}
+
+pub one-store : (s : List ℕ) (i a : ℕ) → i + 1 ≤ length s → set s i a ≡ splice s i (a ∷ [])
+unfolding splice
+one-store s i a h = sets-eq (a ∷ []) s i h ∙ append-assoc (take i s) (a ∷ []) (drop (i + 1) s)
+
+pub held-written : (s v : List ℕ) (at name : ℕ) {s₁ s₂ s₃ : List ℕ} → at + (4 + length v) ≤ length s → s₁ ≡ splice s at (be16 name)
+    → s₂ ≡ splice s₁ (at + 2) (be16 (length v)) → s₃ ≡ splice s₂ (at + 4) v
+    → s₃ ≡ splice s at (heldOctets (record { name = name; value = v }))
+unfolding heldOctets be16
+held-written s v at name h e₁ e₂ e₃ =
+    let a₂ = then s (be16 name) (be16 (length v)) at (at + 2) (omega arith) refl e₁ e₂ in
+    then s (be16 name ++ be16 (length v)) v at (at + 4) (omega arith) refl a₂ e₃
+
+-- name and one octet: a failed record, and a short one up to its value
+octet-behind : (s : List ℕ) (at name x : ℕ) {s₁ : List ℕ} → at + 3 ≤ length s → length s₁ ≡ length s → s₁ ≡ splice s at (be16 name)
+    → set s₁ (at + 2) x ≡ splice s at (be16 name ++ (x ∷ []))
+unfolding be16
+octet-behind s at name x {s₁} h l e =
+    then s (be16 name) (x ∷ []) at (at + 2) (omega arith) refl e (one-store s₁ (at + 2) x (omega arith))
+
+pub short-written : (s v : List ℕ) (at name : ℕ) {s₁ s₃ : List ℕ} → at + (3 + length v) ≤ length s → length s₁ ≡ length s
+    → s₁ ≡ splice s at (be16 name) → s₃ ≡ splice (set s₁ (at + 2) (length v)) (at + 3) v
+    → s₃ ≡ splice s at (shortOctets (record { name = name; value = v }))
+unfolding shortOctets be16
+short-written s v at name h l e₁ e₃ =
+    then s (be16 name ++ (length v ∷ [])) v at (at + 3) (omega arith) refl (octet-behind s at name (length v) (omega arith) l e₁) e₃
+
+pub failed-written : (s : List ℕ) (at name cause : ℕ) {s₁ : List ℕ} → at + 3 ≤ length s → length s₁ ≡ length s → s₁ ≡ splice s at (be16 name)
+    → set s₁ (at + 2) cause ≡ splice s at (failedOctets (record { name = name; cause = cause }))
+unfolding failedOctets
+failed-written s at name cause h l e = octet-behind s at name cause h l e
+
+pub head-written : (s : List ℕ) (at id n : ℕ) {s₂ : List ℕ} → at + 3 ≤ length s → s₂ ≡ splice (set s at id) (at + 1) (be16 n)
+    → s₂ ≡ splice s at (id ∷ be16 n)
+head-written s at id n h e =
+    then s (id ∷ []) (be16 n) at (at + 1) (omega arith) refl (one-store s at id (omega arith)) e
+
+-- ---- all names
+
+-- the octets of the first k names
+abbrev pub firstNames : ℕ → List ℕ
+firstNames k = flat nameOctets (take k rows)
+
+count : length rows ≡ 19
+unfolding rows
+count = refl
+
+first-length : (k : ℕ) → k ≤ 19 → length (firstNames k) ≡ 2 * k
+first-length k h =
+    some-names-length (take k rows) ∙ ap (λ (n : ℕ). 2 * n) (length-take-le k rows (omega (arith, count)))
+
+one-more : (k : ℕ) → k < 19 → firstNames (suc k) ≡ firstNames k ++ be16 (rowAt k .name)
+unfolding rowAt flat be16
+one-more k h =
+    ap (flat nameOctets) (take-suc rows k (row 0 0 0 nobody free) (omega (arith, count)))
+    ∙ flat-append nameOctets (take k rows) (rowAt k ∷ [])
+
+pub none-written : (s : List ℕ) (at : ℕ) → s ≡ splice s at (firstNames 0)
+unfolding splice flat
+none-written s at =
+    let z : at + 0 ≡ at = omega arith in
+    rw z (sym (take-append-drop at s))
+
+pub name-written : (s : List ℕ) (at k : ℕ) {s₁ s₂ : List ℕ} → at + 38 ≤ length s → k < 19 → s₁ ≡ splice s at (firstNames k)
+    → s₂ ≡ splice s₁ (at + 2 * k) (be16 (rowAt k .name)) → s₂ ≡ splice s at (firstNames (k + 1))
+name-written s at k h l e₁ e₂ =
+    let n = first-length k (omega arith) in
+    rw (add-one, one-more k l) (then s (firstNames k) (be16 (rowAt k .name)) at (at + 2 * k) (omega arith) (omega arith) e₁ e₂)
+
+pub all-written : (s : List ℕ) (at k : ℕ) {s₁ : List ℕ} → k ≡ 19 → s₁ ≡ splice s at (firstNames k) → s₁ ≡ splice s at allNames
+unfolding allNames rows
+all-written s at k z e = e ∙ ap (λ (j : ℕ). splice s at (firstNames j)) z

@@ -1,0 +1,2 @@
+-- What the contracts of `reply` cite beside `meaning`.
+pub mod Sections

@@ -1,0 +1,150 @@
+-- The loop that takes a tally: what is known before each turn, and what a turn adds.
+use Prim.Native.Nat.{ℕ, _+_, _*_, _≤_, _<_}
+use native.Mathlib.Omega.{arith}
+use types.Run.{OneOf}
+use mathlib.Core.Path.{_≡_, refl, sym, ap, _∙_}
+use mathlib.Core.Logic.{_≢_}
+use mathlib.Core.Bool.{Bool, true, false, cond}
+use mathlib.Core.List.{List, [], _∷_, _++_}
+use lib.ListN.{length, length-take}
+use lib.Dec.{eqb, leb}
+use borrow.Author.Tests.{leb-true, eq-eqb, ne-eqb}
+use denote.Enum.Declared.{tagOf}
+use Rattle.meaning.specs.Octets.{be16, part, flat, below}
+use Rattle.meaning.specs.Table.{entryCount, rows, rowAt, commit}
+use Rattle.meaning.specs.Block.{sums, sumsOf}
+use Rattle.meaning.specs.Memory.{body, room, sound}
+use Rattle.meaning.specs.Operation.{parse, isSome}
+use Rattle.meaning.specs.Step.{step, answer, answers, after, shown}
+use Rattle.meaning.specs.Reply.{Held, Failed, Records, kinds, held, noRecords, joined, recordOf, gathered, heldOctets, shortOctets, failedOctets}
+use Rattle.meaning.specs.Calls.{records}
+use Rattle.meaning.proofs.Lists.{length-part}
+use Rattle.meaning.proofs.Tests.{below-at}
+use Rattle.operation.specs.declared.Op.{Op}
+use Rattle.operation.specs.declared.Handed.{Handed}
+use Rattle.operation.specs.declared.Handed.the-variants.{Operation}
+use Rattle.operation.proofs.Handed.{the-type}
+use Rattle.operation.specs.Handing.{opOf}
+use Rattle.operation.proofs.Turns.{HandsOut}
+use Rattle.command.specs.declared.Answer.{Answer}
+use Rattle.command.specs.declared.Answer.the-variants.{Names, Value, ReadError, Update, UpdateError, Silent}
+use Rattle.command.specs.Answers.{answerOf, Told}
+use Rattle.command.proofs.Walk.{Under, rest, under-start, under-end, under-ahead, under-rest, under-turn}
+use Rattle.tally.specs.declared.Tally.{Tally}
+use Rattle.tally.specs.Tallies.{plus, noCount, noTally, tallyOf, Small, Below, Adds}
+use Rattle.tally.proofs.Plus.{held-octets, short-octets, Light, plus-joined, plus-below, below-more, silent-added}
+
+-- ---- the octets that a read shows
+
+rooms-short : below entryCount (λ k. leb (rowAt k .most) 470) ≡ true
+unfolding below rowAt rows
+rooms-short = refl
+
+pub shown-short : (m : List ℕ) (k : ℕ) → k < entryCount → length (shown m k) ≤ 470
+unfolding shown body room part sums be16
+shown-short m k h = go (eqb k commit)
+  where
+    most : rowAt k .most ≤ 470
+    most = leb-true _ _ (below-at entryCount (λ k. leb (rowAt k .most) 470) rooms-short k h)
+
+    go : (b : Bool) → length (cond b (sums (body m commit)) (body m k)) ≤ 470
+    go true = omega arith
+    go false = simp length-take (omega (arith, most))
+
+pub shown-commit : (m : List ℕ) (k : ℕ) → k ≡ commit → length (shown m k) ≡ 4
+unfolding shown sums be16
+shown-commit m k e = rw (eq-eqb k commit e)
+
+pub shown-sums : (m : List ℕ) (k : ℕ) → k ≡ commit → shown m k ≡ sums (body m k)
+unfolding shown
+shown-sums m k e = rw e
+
+pub shown-value : (m : List ℕ) (k : ℕ) → k ≢ commit → shown m k ≡ body m k
+unfolding shown
+shown-value m k e = rw (ne-eqb k commit e)
+
+-- ---- what a turn adds
+
+failed-light : (n c : ℕ) → (1 ≤ 4096) × (length (flat failedOctets (record { name = n; cause = c } ∷ [])) ≤ 4096)
+unfolding flat failedOctets be16
+failed-light n c = (omega arith, omega arith)
+
+none-small : Small 0 noCount
+none-small = (omega arith, omega arith)
+
+none-light : (0 ≤ 4096) × (0 ≤ 4096)
+none-light = (omega arith, omega arith)
+
+-- the record of one answer, where the list has at most 2,048 octets
+pub told-light : (m s : List ℕ) (a : Answer) → length s ≤ 2048 → Told (length s) a → Light (recordOf (answerOf m s a))
+unfolding answerOf recordOf flat
+told-light m s Names h t = record { values = none-light; readErrors = none-light; updates = none-light; updateErrors = none-light; longUpdates = none-light }
+told-light m s (Value n k) h t =
+    record {
+      values = (omega arith, omega (arith, held-octets n (shown m k), shown-short m k (t .1)));
+      readErrors = none-light;
+      updates = none-light;
+      updateErrors = none-light;
+      longUpdates = none-light;
+    }
+told-light m s (ReadError n c) h t =
+    record { values = none-light; readErrors = failed-light n c; updates = none-light; updateErrors = none-light; longUpdates = none-light }
+told-light m s (Update n from size) h t = go (leb (length (part s from size)) 255)
+  where
+    v : List ℕ
+    v = part s from size
+
+    l : length v ≤ 2048
+    l = omega (arith, length-part s from size (t .1), t .1, h)
+
+    go : (b : Bool) → Light (cond b (kinds false [] [] (held n v) [] []) (kinds false [] [] [] [] (held n v)))
+    go true =
+        record { values = none-light; readErrors = none-light; updates = (omega arith, omega (arith, short-octets n v, l)); updateErrors = none-light; longUpdates = none-light }
+    go false =
+        record { values = none-light; readErrors = none-light; updates = none-light; updateErrors = none-light; longUpdates = (omega arith, omega (arith, held-octets n v, l)) }
+told-light m s (UpdateError n c) h t =
+    record { values = none-light; readErrors = none-light; updates = none-light; updateErrors = failed-light n c; longUpdates = none-light }
+told-light m s Silent h t = record { values = none-light; readErrors = none-light; updates = none-light; updateErrors = none-light; longUpdates = none-light }
+
+-- less than 2,048 octets are within 2,048
+pub told-within : (n : ℕ) (a : Answer) → n ≤ 2048 → Told n a → Told 2048 a
+told-within n Names h t = t
+told-within n (Value name k) h t = t
+told-within n (ReadError name c) h t = t
+told-within n (Update name from size) h t = (t .0, omega (arith, t .1, h))
+told-within n (UpdateError name c) h t = t
+told-within n Silent h t = t
+
+-- ---- the loop
+
+-- the tally of what was answered so far, with that of the answers to come, is the whole one
+pub record Counting (m list copy : List ℕ) (t : Tally) (at : ℕ) : Type 0 where
+  pub under : Under m list copy at
+  pub leads : plus t (records copy (rest list at)) ≡ tallyOf (records m (rest list 0))
+  pub small : Below (4096 * at) t
+
+pub counting-start : (m list copy : List ℕ) → sound m ≡ true → isSome (parse list) ≡ true → copy ≡ m → Counting m list copy noTally 0
+unfolding tallyOf
+counting-start m list copy s w e =
+    record { under = under-start m list copy s w e; leads = rw e; small = (none-small, none-small, none-small, none-small, none-small) }
+
+module _ (m list copy : List ℕ) (t : Tally) (at : ℕ) (u : Counting m list copy t at) (h : Handed) (hands : HandsOut list at h) where
+  pub counting-end : length list ≤ 2048 → OneOf (1 ∷ 2 ∷ []) (tagOf the-type h)
+      → (t ≡ tallyOf (records m (rest list 0))) × Below 16777216 t × (copy ≡ after m (rest list 0))
+  unfolding records gathered answers
+  counting-end long k =
+      let e = under-end m list copy at (u .under) h hands k in
+      (silent-added t ∙ unfold recordOf in rw (e .0) at (u .leads), below-more (4096 * at) 16777216 t (omega (arith, u .under .inside, long)) (u .small), e .1)
+
+  pub counting-turn : (o : Op) (next : ℕ) → h ≡ Operation o next → length list ≤ 2048 → (copy′ : List ℕ) (a : Answer) (t′ : Tally)
+      → copy′ ≡ step copy (opOf list o) → answerOf copy′ list a ≡ answer copy (opOf list o) → Told (length list) a → Adds copy′ t a t′
+      → Counting m list copy′ t′ next
+  unfolding records gathered answers
+  counting-turn o next e long copy′ a t′ q b told adds =
+      let x : t′ ≡ plus t (recordOf (answerOf copy′ list a)) = adds list told in
+      let w = under-ahead m list copy at (u .under) h hands o next e in
+      record {
+        under = under-turn m list copy at (u .under) h hands o next e copy′ q;
+        leads = rw (x, b, q) (sym (plus-joined t (recordOf (answer copy (opOf list o))) _) ∙ rw (under-rest m list copy at (u .under) h hands o next e) at (u .leads));
+        small = rw x (below-more (4096 * at + 4096) (4096 * next) (plus t (recordOf (answerOf copy′ list a))) (omega (arith, w .0)) (plus-below (4096 * at) t _ (u .small) (told-light copy′ list a long told)));
+      }

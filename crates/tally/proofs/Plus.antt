@@ -1,0 +1,136 @@
+-- A tally and one record more, by the answer's kind; records joined are tallied one after another; how far a tally grows.
+use Prim.Native.Nat.{ℕ, _+_, _*_, _≤_, _<_}
+use native.Mathlib.Nat.{add-zero, add-assoc}
+use native.Mathlib.Omega.{arith}
+use mathlib.Core.Path.{_≡_, refl, sym, ap, ap₂, _∙_}
+use mathlib.Core.Bool.{Bool, true, false, _||_, cond}
+use mathlib.Core.List.{List, [], _∷_, _++_, append-nil}
+use lib.ListN.{length, length-append}
+use lib.Dec.{leb}
+use borrow.Author.Tests.{le-leb, lt-leb}
+use Rattle.meaning.specs.Octets.{be16, flat}
+use Rattle.meaning.specs.Step.{names, value, readError, update, updateError, silent}
+use Rattle.meaning.specs.Reply.{Held, Failed, Records, joined, recordOf, heldOctets, shortOctets, failedOctets}
+use Rattle.meaning.proofs.Lists.{flat-length}
+use Rattle.tally.specs.declared.Count.{Count}
+use Rattle.tally.specs.declared.Tally.{Tally}
+use Rattle.tally.specs.Tallies.{grown, plus, Small, Below}
+
+-- ---- one record
+
+grown-none : (c : Count) → grown c 0 0 ≡ c
+unfolding grown
+grown-none c = rw (add-zero, add-zero)
+
+or-true : (b : Bool) → (b || true) ≡ true
+or-true true = refl
+or-true false = refl
+
+or-false : (b : Bool) → (b || false) ≡ b
+or-false true = refl
+or-false false = refl
+
+pub held-octets : (n : ℕ) (v : List ℕ) → length (flat heldOctets (record { name = n; value = v } ∷ [])) ≡ 4 + length v
+unfolding flat heldOctets be16
+held-octets n v = omega (arith, ap length (append-nil v))
+
+pub short-octets : (n : ℕ) (v : List ℕ) → length (flat shortOctets (record { name = n; value = v } ∷ [])) ≡ 3 + length v
+unfolding flat shortOctets be16
+short-octets n v = omega (arith, ap length (append-nil v))
+
+module _ (t : Tally) where
+  -- the tally with another count of a kind
+  abbrev with : Bool → Count → Count → Count → Count → Count → Tally
+  with b v e u f l = record { capabilities = b; values = v; «read_errors» = e; updates = u; «update_errors» = f; «long_updates» = l }
+
+  pub names-added : with true (t .values) (t .«read_errors») (t .updates) (t .«update_errors») (t .«long_updates») ≡ plus t (recordOf names)
+  unfolding plus recordOf flat
+  names-added = simp (or-true (t .capabilities), grown-none)
+
+  pub silent-added : t ≡ plus t (recordOf silent)
+  unfolding plus recordOf flat
+  silent-added = simp (or-false (t .capabilities), grown-none)
+
+  pub value-added : (n : ℕ) (v : List ℕ) {c : Count} → c ≡ grown (t .values) 1 (4 + length v)
+      → with (t .capabilities) c (t .«read_errors») (t .updates) (t .«update_errors») (t .«long_updates») ≡ plus t (recordOf (value n v))
+  unfolding plus recordOf flat
+  value-added n v e = simp (e, or-false (t .capabilities), grown-none, held-octets n v)
+
+  pub readError-added : (n k : ℕ) {c : Count} → c ≡ grown (t .«read_errors») 1 3
+      → with (t .capabilities) (t .values) c (t .updates) (t .«update_errors») (t .«long_updates») ≡ plus t (recordOf (readError n k))
+  unfolding plus recordOf flat failedOctets be16
+  readError-added n k e = simp (e, or-false (t .capabilities), grown-none)
+
+  pub updateError-added : (n k : ℕ) {c : Count} → c ≡ grown (t .«update_errors») 1 3
+      → with (t .capabilities) (t .values) (t .«read_errors») (t .updates) c (t .«long_updates») ≡ plus t (recordOf (updateError n k))
+  unfolding plus recordOf flat failedOctets be16
+  updateError-added n k e = simp (e, or-false (t .capabilities), grown-none)
+
+  pub update-added : (n : ℕ) (v : List ℕ) {c : Count} → length v ≤ 255 → c ≡ grown (t .updates) 1 (3 + length v)
+      → with (t .capabilities) (t .values) (t .«read_errors») c (t .«update_errors») (t .«long_updates») ≡ plus t (recordOf (update n v))
+  unfolding plus recordOf flat
+  update-added n v h e = simp (e, or-false (t .capabilities), le-leb (length v) 255 h, grown-none, short-octets n v)
+
+  pub long-added : (n : ℕ) (v : List ℕ) {c : Count} → 255 < length v → c ≡ grown (t .«long_updates») 1 (4 + length v)
+      → with (t .capabilities) (t .values) (t .«read_errors») (t .updates) (t .«update_errors») c ≡ plus t (recordOf (update n v))
+  unfolding plus recordOf flat
+  long-added n v h e = simp (e, or-false (t .capabilities), lt-leb (length v) 255 h, grown-none, held-octets n v)
+
+-- ---- records joined
+
+or-assoc : (a b c : Bool) → (a || (b || c)) ≡ ((a || b) || c)
+or-assoc true b c = refl
+or-assoc false b c = refl
+
+grown-append : {A : Type 0} (f : A → List ℕ) (c : Count) (a b : List A)
+    → grown c (length (a ++ b)) (length (flat f (a ++ b))) ≡ grown (grown c (length a) (length (flat f a))) (length b) (length (flat f b))
+unfolding grown
+grown-append f c a b = rw (length-append a b, flat-length f a b, add-assoc, add-assoc)
+
+pub plus-joined : (t : Tally) (r s : Records) → plus t (joined r s) ≡ plus (plus t r) s
+unfolding plus
+plus-joined t r s =
+    rw (
+      or-assoc (t .capabilities) (r .capabilities) (s .capabilities),
+      grown-append heldOctets (t .values) (r .values) (s .values),
+      grown-append failedOctets (t .«read_errors») (r .readErrors) (s .readErrors),
+      grown-append shortOctets (t .updates) (r .updates) (s .updates),
+      grown-append failedOctets (t .«update_errors») (r .updateErrors) (s .updateErrors),
+      grown-append heldOctets (t .«long_updates») (r .longUpdates) (s .longUpdates),
+    )
+
+-- ---- how far a tally grows
+
+-- no kind of these records has more than 4,096 of them, or of their octets
+pub record Light (r : Records) : Type 0 where
+  pub values : (length (r .values) ≤ 4096) × (length (flat heldOctets (r .values)) ≤ 4096)
+  pub readErrors : (length (r .readErrors) ≤ 4096) × (length (flat failedOctets (r .readErrors)) ≤ 4096)
+  pub updates : (length (r .updates) ≤ 4096) × (length (flat shortOctets (r .updates)) ≤ 4096)
+  pub updateErrors : (length (r .updateErrors) ≤ 4096) × (length (flat failedOctets (r .updateErrors)) ≤ 4096)
+  pub longUpdates : (length (r .longUpdates) ≤ 4096) × (length (flat heldOctets (r .longUpdates)) ≤ 4096)
+
+grown-small : (b : ℕ) (c : Count) (n o : ℕ) → Small b c → (n ≤ 4096) × (o ≤ 4096) → Small (b + 4096) (grown c n o)
+unfolding grown
+grown-small b c n o s h = (omega (arith, s .0, h .0), omega (arith, s .1, h .1))
+
+pub plus-below : (b : ℕ) (t : Tally) (r : Records) → Below b t → Light r → Below (b + 4096) (plus t r)
+unfolding plus
+plus-below b t r s h = (
+  grown-small b (t .values) _ _ (s .0) (h .values),
+  grown-small b (t .«read_errors») _ _ (s .1) (h .readErrors),
+  grown-small b (t .updates) _ _ (s .2) (h .updates),
+  grown-small b (t .«update_errors») _ _ (s .3) (h .updateErrors),
+  grown-small b (t .«long_updates») _ _ (s .4) (h .longUpdates),
+)
+
+small-more : (b d : ℕ) (c : Count) → b ≤ d → Small b c → Small d c
+small-more b d c h s = (omega (arith, s .0, h), omega (arith, s .1, h))
+
+pub below-more : (b d : ℕ) (t : Tally) → b ≤ d → Below b t → Below d t
+below-more b d t h s = (
+  small-more b d (t .values) h (s .0),
+  small-more b d (t .«read_errors») h (s .1),
+  small-more b d (t .updates) h (s .2),
+  small-more b d (t .«update_errors») h (s .3),
+  small-more b d (t .«long_updates») h (s .4),
+)

@@ -1,0 +1,2 @@
+-- What the contracts of `tally` cite beside `meaning`.
+pub mod Tallies

@@ -1,0 +1,91 @@
+-- The tally of a reply's records, and the reply's length by it.
+use Prim.Native.Nat.{ℕ, _+_, _≤_}
+use mathlib.Core.Path.{_≡_}
+use mathlib.Core.Bool.{Bool, true, false, _||_, not, cond}
+use mathlib.Core.List.{List, [], _∷_}
+use lib.ListN.{length}
+use lib.Dec.{eqb, leb}
+use Rattle.meaning.specs.Octets.{flat, every}
+use Rattle.meaning.specs.Reply.{Records, recordOf, heldOctets, shortOctets, failedOctets}
+use Rattle.command.specs.Answers.{answerOf, Told}
+use Rattle.command.specs.declared.Answer.{Answer}
+use Rattle.tally.specs.declared.Count.{Count}
+use Rattle.tally.specs.declared.Tally.{Tally}
+
+-- so many records more, of so many octets
+unfoldable pub grown : Count → ℕ → ℕ → Count
+grown c n octets = record { count = c .count + n; octets = c .octets + octets }
+
+-- a tally, and some records more
+unfoldable pub plus : Tally → Records → Tally
+plus t r =
+    record {
+      capabilities = t .capabilities || r .capabilities;
+      values = grown (t .values) (length (r .values)) (length (flat heldOctets (r .values)));
+      «read_errors» = grown (t .«read_errors») (length (r .readErrors)) (length (flat failedOctets (r .readErrors)));
+      updates = grown (t .updates) (length (r .updates)) (length (flat shortOctets (r .updates)));
+      «update_errors» = grown (t .«update_errors») (length (r .updateErrors)) (length (flat failedOctets (r .updateErrors)));
+      «long_updates» = grown (t .«long_updates») (length (r .longUpdates)) (length (flat heldOctets (r .longUpdates)));
+    }
+
+abbrev pub noCount : Count
+noCount = record { count = 0; octets = 0 }
+
+abbrev pub noTally : Tally
+noTally = record { capabilities = false; values = noCount; «read_errors» = noCount; updates = noCount; «update_errors» = noCount; «long_updates» = noCount }
+
+unfoldable pub tallyOf : Records → Tally
+tallyOf r = plus noTally r
+
+-- ---- what the code asks and says of a tally
+
+-- small enough for a sum more
+abbrev pub Small : ℕ → Count → Type 0
+Small b c = (c .count ≤ b) × (c .octets ≤ b)
+
+abbrev pub Below : ℕ → Tally → Type 0
+Below b t = Small b (t .values) × Small b (t .«read_errors») × Small b (t .updates) × Small b (t .«update_errors») × Small b (t .«long_updates»)
+
+-- a tally with the record of an answer, whatever the list
+abbrev pub Adds : List ℕ → Tally → Answer → Tally → Type 0
+Adds m t a r = (s : List ℕ) → Told (length s) a → r ≡ plus t (recordOf (answerOf m s a))
+
+-- ---- the reply's length
+
+-- contents of element 71
+unfoldable pub readOctets : Tally → ℕ
+readOctets t = 2 + t .values .octets + t .«read_errors» .octets
+
+-- the long updates with their length (2), where there are any
+unfoldable pub longOctets : Count → ℕ
+longOctets c = cond (eqb (c .count) 0) 0 (2 + c .octets)
+
+-- contents of element 72
+unfoldable pub setOctets : Tally → ℕ
+setOctets t = 2 + t .updates .octets + t .«update_errors» .octets + longOctets (t .«long_updates»)
+
+-- whether a read, or a set, was asked
+unfoldable pub anyRead : Tally → Bool
+anyRead t = not (eqb (t .values .count + t .«read_errors» .count) 0)
+
+unfoldable pub anySet : Tally → Bool
+anySet t = not (eqb (t .updates .count + t .«update_errors» .count + t .«long_updates» .count) 0)
+
+-- an element where it is needed: identifier, length (2), contents
+unfoldable pub elementLength : Bool → ℕ → ℕ
+elementLength b n = cond b (3 + n) 0
+
+unfoldable pub replyLength : Tally → ℕ
+replyLength t = 1 + elementLength (t .capabilities) 38 + elementLength (anyRead t) (readOctets t) + elementLength (anySet t) (setOctets t)
+
+-- a reply of this tally fits a room of n octets
+unfoldable pub tallyFits : ℕ → Tally → Bool
+tallyFits n t =
+    every
+    (leb (replyLength t) n
+    ∷ leb (replyLength t) 4096
+    ∷ leb (t .values .count) 255
+    ∷ leb (t .«read_errors» .count) 255
+    ∷ leb (t .updates .count) 255
+    ∷ leb (t .«update_errors» .count) 255
+    ∷ [])

@@ -1,0 +1,192 @@
+// What a reply will hold, counted before any of it is written: whether names are asked, and for each kind of record how
+// many there are and their octets. The operations act on the working copy; the numbers are exact.
+ghost use Prim.Native.Nat.{_+_, _≤_, _<_};
+ghost use mathlib.Core.Path.{_≡_};
+ghost use mathlib.Core.Bool.{true};
+ghost use lib.ListN.{length};
+ghost use Rattle.meaning.specs.Table.{memoryLength, entryCount};
+ghost use Rattle.meaning.specs.Memory.{sound};
+ghost use Rattle.meaning.specs.Operation.{parse, isSome, orNone};
+ghost use Rattle.meaning.specs.Step.{shown, after};
+ghost use Rattle.meaning.specs.Calls.{records};
+ghost use Rattle.command.specs.Answers.{Told};
+ghost use Rattle.tally.specs.Tallies.{grown, tallyOf, Below, Adds, anyRead, anySet, readOctets, setOctets, elementLength, replyLength, tallyFits};
+use command::Answer;
+use operation::Handed;
+
+// The records of a kind: how many, and their octets.
+pub struct Count {
+    pub count: usize,
+    pub octets: usize,
+}
+
+// What a reply will hold.
+pub struct Tally {
+    pub capabilities: bool,
+    pub values: Count,
+    pub read_errors: Count,
+    pub updates: Count,
+    pub update_errors: Count,
+    pub long_updates: Count,
+}
+
+// One record more, of so many octets.
+fn one_more(c: Count, octets: usize) -> Count
+    requires { ⌜ (c .count ≤ 16777216) × (c .octets ≤ 16777216) × (octets ≤ 4096) ⌝ }
+    ensures { λ r. ⌜ r ≡ grown c 1 octets ⌝ }
+{
+    Count {
+        count: c.count + 1,
+        octets: c.octets + octets,
+    }
+}
+
+// The octets that a read of the value at a place shows: the two sums for 8001.
+fn shown_length(m: &[u8], k: usize) -> usize
+    requires { ⌜ (length (now m) ≡ memoryLength) × (k < entryCount) ⌝ }
+    ensures { λ r. ⌜ (r ≡ length (shown (now (m .entry)) k)) × (r ≤ 470) ⌝ }
+{
+    if k == table::COMMIT {
+        return 4;
+    }
+    memory::body(m, k).len()
+}
+
+// A tally and the record of one answer more.
+fn add(t: Tally, m: &[u8], a: Answer) -> Tally
+    requires { ⌜ (length (now m) ≡ memoryLength) × Below 16777216 t × Told 2048 a ⌝ }
+    ensures { λ r. ⌜ Adds (now (m .entry)) t a r ⌝ }
+{
+    let mut r = t;
+    match a {
+        Answer::Names => {
+            r.capabilities = true;
+            r
+        }
+        Answer::Value(_, k) => {
+            let c = t.values;
+            r.values = one_more(c, 4 + shown_length(m, k));
+            r
+        }
+        Answer::ReadError(_, _) => {
+            let c = t.read_errors;
+            r.read_errors = one_more(c, 3);
+            r
+        }
+        Answer::Update(_, _, size) => {
+            if size <= 255 {
+                let c = t.updates;
+                r.updates = one_more(c, 3 + size);
+                return r;
+            }
+            let c = t.long_updates;
+            r.long_updates = one_more(c, 4 + size);
+            r
+        }
+        Answer::UpdateError(_, _) => {
+            let c = t.update_errors;
+            r.update_errors = one_more(c, 3);
+            r
+        }
+        Answer::Silent => r,
+    }
+}
+
+// The tally of a whole list of operations. The copy is filled from the memory and holds afterwards what they leave.
+pub fn take(m: &[u8], list: &[u8], copy: &mut [u8]) -> Tally
+    requires { ⌜ (sound (now m) ≡ true) × (isSome (parse (now list)) ≡ true) × (length (now list) ≤ 2048) × (length (now copy) ≡ memoryLength) ⌝ }
+    ensures { λ r. ⌜ r ≡ tallyOf (records (now (m .entry)) (orNone (parse (now (list .entry))))) ⌝ }
+    ensures { λ r. ⌜ Below 16777216 r ⌝ }
+    ensures { λ _. ⌜ now (copy .exit) ≡ after (now (m .entry)) (orNone (parse (now (list .entry)))) ⌝ }
+{
+    bytes::copy(m, copy);
+    let none = Count {
+        count: 0,
+        octets: 0,
+    };
+    let mut t = Tally {
+        capabilities: false,
+        values: none,
+        read_errors: none,
+        updates: none,
+        update_errors: none,
+        long_updates: none,
+    };
+    let mut at: usize = 0;
+    loop {
+        let h = operation::hand_out(list, at);
+        let Handed::Operation(op, next) = h else {
+            return t;
+        };
+        let a = command::carry_out(copy, list, op);
+        t = add(t, copy, a);
+        at = next;
+    }
+}
+
+// ---- the reply's length
+
+// Whether a read was asked.
+pub fn any_read(t: Tally) -> bool
+    requires { ⌜ Below 16777216 t ⌝ }
+    ensures { λ r. ⌜ r ≡ anyRead t ⌝ }
+{
+    t.values.count + t.read_errors.count != 0
+}
+
+// Whether a set was asked.
+pub fn any_set(t: Tally) -> bool
+    requires { ⌜ Below 16777216 t ⌝ }
+    ensures { λ r. ⌜ r ≡ anySet t ⌝ }
+{
+    t.updates.count + t.update_errors.count + t.long_updates.count != 0
+}
+
+// Octets of the contents of element 71.
+pub fn read_octets(t: Tally) -> usize
+    requires { ⌜ Below 16777216 t ⌝ }
+    ensures { λ r. ⌜ (r ≡ readOctets t) × (r ≤ 67108864) ⌝ }
+{
+    2 + t.values.octets + t.read_errors.octets
+}
+
+// Octets of the contents of element 72: the long updates, with their length, where there are any.
+pub fn set_octets(t: Tally) -> usize
+    requires { ⌜ Below 16777216 t ⌝ }
+    ensures { λ r. ⌜ (r ≡ setOctets t) × (r ≤ 67108864) ⌝ }
+{
+    let n = 2 + t.updates.octets + t.update_errors.octets;
+    if t.long_updates.count == 0 {
+        return n;
+    }
+    n + (2 + t.long_updates.octets)
+}
+
+// Octets of an element with contents of n octets, where it is needed.
+fn element_length(needed: bool, n: usize) -> usize
+    requires { ⌜ n ≤ 67108864 ⌝ }
+    ensures { λ r. ⌜ (r ≡ elementLength needed n) × (r ≤ 67108867) ⌝ }
+{
+    if needed { 3 + n } else { 0 }
+}
+
+// Octets of the whole reply.
+pub fn reply_length(t: Tally) -> usize
+    requires { ⌜ Below 16777216 t ⌝ }
+    ensures { λ r. ⌜ r ≡ replyLength t ⌝ }
+{
+    let names = element_length(t.capabilities, 38);
+    let reads = element_length(any_read(t), read_octets(t));
+    let sets = element_length(any_set(t), set_octets(t));
+    1 + names + reads + sets
+}
+
+// Whether a reply of n octets fits its room and 4,096, and no count is over 255.
+pub fn fits(t: Tally, n: usize, room: usize) -> bool
+    requires { ⌜ n ≡ replyLength t ⌝ }
+    ensures { λ r. ⌜ r ≡ tallyFits room t ⌝ }
+{
+    let sets = (t.updates.count <= 255) & (t.update_errors.count <= 255);
+    let counts = (t.values.count <= 255) & ((t.read_errors.count <= 255) & sets);
+    (n <= room) & ((n <= 4096) & counts)
+}

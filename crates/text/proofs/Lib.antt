@@ -1,0 +1,2 @@
+-- Laws of the text that the functions write.
+pub mod Writes

@@ -1,0 +1,2 @@
+-- Lines of text.
+pub mod Lines

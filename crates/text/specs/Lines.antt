@@ -1,0 +1,25 @@
+-- Lines of text: a number under 100, a space, octets in lower-case hexadecimal or `-` for none, a newline.
+use Prim.Native.Nat.{ℕ, _+_, _/_, _%_}
+use mathlib.Core.Bool.{cond}
+use mathlib.Core.List.{List, [], _∷_, _++_}
+use lib.Dec.{ltb}
+
+-- the character of a digit: `0` to `9`, then `a` to `f`
+unfoldable pub digit : ℕ → ℕ
+digit d = cond (ltb d 10) (48 + d) (87 + d)
+
+-- two digits an octet, the high one first
+unfoldable pub hex : List ℕ → List ℕ
+hex [] = []
+hex (x ∷ s) = digit (x / 16) ∷ digit (x % 16) ∷ hex s
+
+-- a number under 100, without a leading zero
+unfoldable pub decimal : ℕ → List ℕ
+decimal n = cond (ltb n 10) (digit n ∷ []) (digit (n / 10) ∷ digit (n % 10) ∷ [])
+
+unfoldable pub shownOctets : List ℕ → List ℕ
+shownOctets [] = 45 ∷ []
+shownOctets (x ∷ s) = hex (x ∷ s)
+
+unfoldable pub line : ℕ → List ℕ → List ℕ
+line n s = decimal n ++ (32 ∷ (shownOctets s ++ (10 ∷ [])))

@@ -1,0 +1,71 @@
+// Lines of text, written at a place of a room. Each function returns the place after what it wrote, and says by a
+// definition of `Lines` what every octet of the room holds afterwards.
+ghost use Prim.Native.Nat.{_+_, _≤_, _<_};
+ghost use mathlib.Core.Path.{_≡_};
+ghost use lib.ListN.{length};
+ghost use Rattle.meaning.specs.Octets.{splice};
+ghost use Rattle.text.specs.Lines.{digit as Lines·digit, hex, decimal, shownOctets, line};
+
+// The character of a digit: 39 more for a letter, taken from all bits of an octet or from none. With a quotient by 10 or a
+// test, LLVM puts branches into the loop over it.
+fn digit(d: u8) -> u8
+    requires { ⌜ d < 16 ⌝ }
+    ensures { λ r. ⌜ r ≡ Lines·digit d ⌝ }
+{
+    d + 48 + ((d + 6) / 16 * 255 & 39)
+}
+
+// Octets as two digits each.
+pub fn write_hex(out: &mut [u8], at: usize, src: &[u8]) -> usize
+    requires { ⌜ at + (length (now src) + length (now src)) ≤ length (now out) ⌝ }
+    ensures { λ r. ⌜ (r ≡ at + length (hex (now (src .entry)))) × (now (out .exit) ≡ splice (now (out .entry)) at (hex (now (src .entry)))) ⌝ }
+{
+    let mut to = at;
+    let mut i = 0;
+    while i < src.len() {
+        let x = src[i];
+        out[to] = digit(x / 16);
+        out[to + 1] = digit(x % 16);
+        to += 2;
+        i += 1;
+    }
+    to
+}
+
+// A number under 100.
+fn write_decimal(out: &mut [u8], at: usize, number: usize) -> usize
+    requires { ⌜ (number < 100) × (at + 2 ≤ length (now out)) ⌝ }
+    ensures { λ r. ⌜ (r ≡ at + length (decimal number)) × (now (out .exit) ≡ splice (now (out .entry)) at (decimal number)) ⌝ }
+{
+    if number < 10 {
+        out[at] = digit(number as u8);
+        return at + 1;
+    }
+    out[at] = digit((number / 10) as u8);
+    out[at + 1] = digit((number % 10) as u8);
+    at + 2
+}
+
+// Octets, or `-` for none.
+fn write_shown(out: &mut [u8], at: usize, src: &[u8]) -> usize
+    requires { ⌜ at + (length (now src) + length (now src) + 1) ≤ length (now out) ⌝ }
+    ensures { λ r. ⌜ (r ≡ at + length (shownOctets (now (src .entry)))) × (now (out .exit) ≡ splice (now (out .entry)) at (shownOctets (now (src .entry)))) ⌝ }
+{
+    if src.len() == 0 {
+        out[at] = b'-';
+        return at + 1;
+    }
+    write_hex(out, at, src)
+}
+
+// A line: a number under 100, a space, octets, a newline.
+pub fn write_line(out: &mut [u8], at: usize, number: usize, reply: &[u8]) -> usize
+    requires { ⌜ (number < 100) × (at + (length (now reply) + length (now reply) + 5) ≤ length (now out)) ⌝ }
+    ensures { λ r. ⌜ (r ≡ at + length (line number (now (reply .entry)))) × (now (out .exit) ≡ splice (now (out .entry)) at (line number (now (reply .entry)))) ⌝ }
+{
+    let space = write_decimal(out, at, number);
+    out[space] = b' ';
+    let end = write_shown(out, space + 1, reply);
+    out[end] = b'\n';
+    end + 1
+}

@@ -1,0 +1,20 @@
+//! Runs two bridges on the same large streams and prints their times.
+
+use std::io::{self, ErrorKind};
+use std::process::ExitCode;
+
+use second::measure::{self, Plan};
+use second::program;
+
+fn main() -> ExitCode {
+    let plan = match Plan::parse(&program::arguments()) {
+        Ok(plan) => plan,
+        Err(why) => return program::refuse("measure", &why),
+    };
+    match measure::run(&plan, &mut io::stdout().lock()) {
+        Err(error) if error.kind() != ErrorKind::BrokenPipe => {
+            program::refuse("measure", &error.to_string())
+        }
+        result => program::finish("measure", result),
+    }
+}

@@ -1,0 +1,127 @@
+//! The stored stream of the proved bridge, `crates/bridge/stdin`, and the lines of it, `stdout`.
+
+use std::collections::BTreeSet;
+use std::fs;
+
+use second::traffic::{stream, Kind};
+
+use crate::kit::{hex, Reply};
+use crate::process::{run, text, BRIDGE};
+use crate::traffic::pieces;
+
+/// The example of the rules.
+const EXAMPLE: &str = "0003010003 0006010003020003 0000";
+
+fn stored(part: &str) -> Vec<u8> {
+    let folder = concat!(env!("CARGO_MANIFEST_DIR"), "/../crates/bridge");
+    fs::read(format!("{folder}/{part}")).unwrap()
+}
+
+/// The stored lines, as numbers and replies, without the last, which is `cut`.
+fn answers() -> Vec<(u8, Vec<u8>)> {
+    let stdout = stored("stdout");
+    let lines = text(&stdout).strip_suffix("\ncut\n").unwrap().lines();
+    let answer = |line: &str| {
+        let (number, reply) = line.split_once(' ').unwrap();
+        (number.parse().unwrap(), hex(reply))
+    };
+    lines.map(answer).collect()
+}
+
+#[test]
+fn the_second_bridge_prints_the_stored_lines() {
+    let output = run(BRIDGE, &[], &stored("stdin"));
+    assert!(output.status.success());
+    assert_eq!(text(&output.stderr), "");
+    let (printed, stored) = (text(&output.stdout), stored("stdout"));
+    for (at, (printed, stored)) in (1..).zip(printed.lines().zip(text(&stored).lines())) {
+        assert_eq!(printed, stored, "line {at}");
+    }
+    assert!(output.stdout == stored, "the number of lines");
+}
+
+/// The README has the command line that made it. Where `traffic` changes, both files are made anew.
+#[test]
+fn the_stored_stream_follows_from_its_seeds() {
+    let parts = [
+        hex(EXAMPLE),
+        stream(Kind::Mixed, 1, 200),
+        stream(Kind::Frames, 42_582, 350),
+    ];
+    assert!(stored("stdin") == parts.concat());
+    assert!(stored("stdin").len() < 150_000);
+    let frames = pieces(&stored("stdin"), 2);
+    let lengths: BTreeSet<usize> = frames.iter().map(|(_, message)| message.len()).collect();
+    let edges = BTreeSet::from([0, 1, 2_048, 2_049, 65_535]);
+    assert!(lengths.is_superset(&edges), "{lengths:?}");
+}
+
+#[test]
+fn the_stored_lines_have_every_number_of_a_message() {
+    let answers = answers();
+    assert!(answers.len() >= 500, "{} lines", answers.len());
+    assert_eq!(
+        answers[..3],
+        [(5, vec![]), (0, hex("0271000701000300010000")), (2, vec![])]
+    );
+    let numbers: BTreeSet<u8> = answers.iter().map(|(number, _)| *number).collect();
+    // The bridge's memory is always sound, so there is no 1, and it never waits, so each 04 gives 8.
+    assert_eq!(numbers, BTreeSet::from([0, 2, 3, 4, 5, 6, 7, 8]));
+    for (number, reply) in &answers {
+        assert_eq!(*number == 0, !reply.is_empty());
+    }
+}
+
+#[test]
+fn the_stored_replies_have_every_kind_of_record() {
+    let answers = answers();
+    let done = answers.iter().filter(|(number, _)| *number == 0);
+    let replies: Vec<(usize, Reply)> = done.map(|(_, r)| (r.len(), Reply::parse(r))).collect();
+    let count = |test: &dyn Fn(&Reply) -> bool| replies.iter().filter(|(_, r)| test(r)).count();
+    let asked = [
+        ("70", count(&|r| r.capabilities.is_some())),
+        ("values read", count(&|r| !r.values.is_empty())),
+        ("read errors", count(&|r| !r.read_errors.is_empty())),
+        ("updates", count(&|r| !r.updates.is_empty())),
+        ("update errors", count(&|r| !r.update_errors.is_empty())),
+        ("long updates", count(&|r| !r.long_updates.is_empty())),
+        (
+            "commits",
+            count(&|r| r.updates.iter().any(|u| u.0 == 0x8001)),
+        ),
+        (
+            "refused commits",
+            count(&|r| r.update_errors.contains(&(0x8001, 2))),
+        ),
+        ("nothing", count(&|r| *r == Reply::default())),
+    ];
+    for (what, count) in asked {
+        assert!(count >= 5, "{count} replies with {what}");
+    }
+    let causes = |errors: fn(&Reply) -> &Vec<(u16, u8)>| -> BTreeSet<u8> {
+        let errors = replies.iter().flat_map(|(_, reply)| errors(reply));
+        errors.map(|(_, cause)| *cause).collect()
+    };
+    assert_eq!(causes(|r| &r.read_errors), BTreeSet::from([1, 3]));
+    assert_eq!(causes(|r| &r.update_errors), BTreeSet::from([1, 2, 0x6F]));
+    // The edges: the longest reply, the largest counts, and lists around 255 octets and at their end.
+    assert_eq!(replies.iter().map(|(length, _)| *length).max(), Some(4_096));
+    for counted in [
+        replies.iter().map(|(_, r)| r.values.len()).max(),
+        replies.iter().map(|(_, r)| r.read_errors.len()).max(),
+        replies.iter().map(|(_, r)| r.updates.len()).max(),
+        replies.iter().map(|(_, r)| r.update_errors.len()).max(),
+    ] {
+        assert_eq!(counted, Some(255));
+    }
+    let lists: BTreeSet<usize> = replies
+        .iter()
+        .flat_map(|(_, r)| r.updates.iter().chain(&r.long_updates))
+        .filter(|(name, _)| *name == 6)
+        .map(|(_, list)| list.len() / 7)
+        .collect();
+    assert!(
+        lists.is_superset(&BTreeSet::from([0, 1, 36, 37, 64])),
+        "{lists:?}"
+    );
+}
