@@ -10,8 +10,7 @@ use borrow.Author.Tests.{le-leb, lt-leb}
 use Rattle.meaning.specs.Octets.{at16, part}
 use Rattle.endpoint.specs.Outcomes.{numberOf}
 use Rattle.endpoint.specs.declared.Outcome.{Outcome}
-use Rattle.endpoint.specs.declared.Outcome.the-variants.{Done, MemoryUnsound, MessageEmpty, MessageTooLong, TypeUnknown, LengthWrong, OperationMalformed, NoRoom}
-use Rattle.endpoint.specs.declared.Outcome.the-variants.{Idle, NothingPending, AlreadyWaiting, RoomTooSmall, NotPermitted, SendAgain, GivenUp}
+use Rattle.endpoint.specs.declared.Outcome.the-variants.{Done, MemoryUnsound, MessageEmpty, MessageTooLong, TypeUnknown, LengthWrong, OperationMalformed, NoRoom, Idle, NothingPending, AlreadyWaiting, RoomTooSmall, NotPermitted, SendAgain, GivenUp}
 use Rattle.bridge.specs.Frames.{needed, Framed, Left}
 use Rattle.bridge.specs.declared.Next.{Next}
 use Rattle.bridge.specs.declared.Next.the-variants.{Whole, More}

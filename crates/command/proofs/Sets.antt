@@ -3,21 +3,17 @@ use Prim.Native.Nat.{ℕ, zero, suc, _+_, _≤_, _<_}
 use native.Mathlib.Omega.{arith}
 use mathlib.Core.Path.{_≡_, refl, sym, ap, _∙_}
 use mathlib.Core.Logic.{_≢_}
-use mathlib.Core.Bool.{Bool, true, false, cond, not}
+use mathlib.Core.Bool.{Bool, true, false, cond}
 use mathlib.Core.List.{List}
 use lib.ListN.{length, length-take}
 use lib.Seq.{take-all}
-use lib.Dec.{eqb, leb}
 use borrow.Author.Tests.{lt-ltb, le-ltb, ne-eqb}
-use Rattle.meaning.specs.Octets.{every}
 use Rattle.meaning.specs.Checks.{firstFailed, settle}
-use Rattle.meaning.specs.Table.{Row, rows, rowAt, place, listed, byController, entryCount, memoryLength, adminBaseTime, adminControlListLength, adminControlList, adminCycleTime, commit}
-use Rattle.meaning.specs.Block.{permits, joinedBlock, formAndFit}
-use Rattle.meaning.specs.Memory.{cell, room, size, isPresent, present, body, pending, store, remark, fourPresent, sound}
+use Rattle.meaning.specs.Table.{rows, rowAt, place, listed, byController, entryCount, memoryLength, adminBaseTime, adminControlListLength, adminControlList, adminCycleTime, commit}
+use Rattle.meaning.specs.Block.{permits, joinedBlock}
+use Rattle.meaning.specs.Memory.{cell, room, size, present, body, pending, store, remark, fourPresent, sound}
 use Rattle.meaning.specs.Step.{block, commits, permitted, setChecks, stored, setMemory, subscribeMemory, unsubscribeMemory, setAnswer, readChecks, readAnswer, value, readError, update, updateError, shown}
-use Rattle.meaning.specs.Step as step
-use Rattle.meaning.proofs.Tests.{every-at}
-use Rattle.meaning.proofs.Sound.{Sound, opened, entry-of, four-at}
+use Rattle.meaning.proofs.Sound.{opened, entry-of, four-at}
 use Rattle.meaning.proofs.Kept.{permits-length}
 use Rattle.schedule.specs.Rules.{agrees}
 use Rattle.schedule.proofs.Blocks.{commits-agrees, joined-length}

@@ -2,7 +2,7 @@
 use Prim.Native.Nat.{ℕ, _≤_, _<_}
 use native.Mathlib.Omega.{arith}
 use types.Run.{OneOf}
-use mathlib.Core.Path.{_≡_, refl, sym, ap, _∙_, subst}
+use mathlib.Core.Path.{_≡_, sym, ap, _∙_, subst}
 use mathlib.Core.Logic.{inl, inr}
 use mathlib.Core.Bool.{true, false≢true}
 use mathlib.Core.List.{List, [], _∷_}
@@ -17,7 +17,7 @@ use Rattle.operation.specs.declared.Op.{Op}
 use Rattle.operation.specs.declared.Handed.{Handed}
 use Rattle.operation.specs.declared.Handed.the-variants.{Operation, Malformed, End}
 use Rattle.operation.proofs.Handed.{the-type}
-use Rattle.operation.specs.Handing.{opOf, handing, first, Reached, Inside}
+use Rattle.operation.specs.Handing.{opOf, Inside}
 use Rattle.operation.proofs.Turns.{HandsOut, turn-malformed, turn-end, turn-whole, turn-ops}
 
 -- the operations from a position on

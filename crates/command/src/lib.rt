@@ -12,30 +12,30 @@ ghost use Rattle.operation.specs.Handing.{opOf, Inside};
 ghost use Rattle.command.specs.Answers.{answerOf, Told, AnswersRead};
 use operation::Op;
 
-// An answer: all names; a value or a cause to a read; a value or a cause to a set; no record. The value of a read lies in
-// the memory, at a place of the table; that of a set in the list: where it starts, and its length.
+// An answer to an operation: all names; a value, by its place in the table, or a cause to a read; that the operation's value
+// is set, or a cause; no record. The name and the value of a set are the operation's, so an answer does not say them again.
 pub enum Answer {
     Names,
-    Value(usize, usize),
-    ReadError(usize, u8),
-    Update(usize, usize, usize),
-    UpdateError(usize, u8),
+    Value(usize),
+    ReadError(u8),
+    Update,
+    UpdateError(u8),
     Silent,
 }
 
 // A read: cause 01 for a name not in the table, 03 for an absent value.
 fn read(m: &[u8], name: usize) -> Answer
-    requires { ⌜ (length (now m) ≡ memoryLength) × (name < 65536) ⌝ }
+    requires { ⌜ length (now m) ≡ memoryLength ⌝ }
     ensures { λ r. ⌜ AnswersRead (now (m .entry)) name r ⌝ }
 {
     let k = table::place_of(name);
     if table::ENTRY_COUNT <= k {
-        return Answer::ReadError(name, 0x01);
+        return Answer::ReadError(0x01);
     }
     if !memory::present(m, k) {
-        return Answer::ReadError(name, 0x03);
+        return Answer::ReadError(0x03);
     }
-    Answer::Value(name, k)
+    Answer::Value(k)
 }
 
 // A commit: the running block becomes the block of the four values, where every condition is met. A present value of one
@@ -122,7 +122,7 @@ fn unsubscribe(m: &mut [u8], name: usize)
 pub fn carry_out(m: &mut [u8], list: &[u8], op: Op) -> Answer
     requires { ⌜ (sound (now m) ≡ true) × Inside (length (now list)) op ⌝ }
     ensures { λ _. ⌜ now (m .exit) ≡ step (now (m .entry)) (opOf (now (list .entry)) op) ⌝ }
-    ensures { λ r. ⌜ (answerOf (now (m .exit)) (now (list .entry)) r ≡ answer (now (m .entry)) (opOf (now (list .entry)) op)) × Told (length (now (list .entry))) r ⌝ }
+    ensures { λ r. ⌜ (answerOf (now (m .exit)) (now (list .entry)) op r ≡ answer (now (m .entry)) (opOf (now (list .entry)) op)) × Told r ⌝ }
 {
     match op {
         Op::Capabilities => Answer::Names,
@@ -130,9 +130,9 @@ pub fn carry_out(m: &mut [u8], list: &[u8], op: Op) -> Answer
         Op::Set(name, from, size) => {
             let cause = set(m, name, &list[from..from + size]);
             if cause == 0 {
-                Answer::Update(name, from, size)
+                Answer::Update
             } else {
-                Answer::UpdateError(name, cause)
+                Answer::UpdateError(cause)
             }
         }
         Op::Subscribe(name) => {

@@ -1,30 +1,28 @@
 -- One law for each way out of a call: what the definition gives there.
 use Prim.Native.Nat.{ℕ, _+_, _-_, _≤_, _<_}
 use native.Mathlib.Omega.{arith}
+use types.Run.{OneOf, miss}
 use mathlib.Core.Path.{_≡_, refl, sym, ap, _∙_}
-use mathlib.Core.Logic.{_≢_, inl, inr}
-use mathlib.Core.Bool.{Bool, true, false, _||_, cond, false≢true}
+use mathlib.Core.Bool.{true, false, false≢true}
 use mathlib.Core.Option.{Option, none, some}
 use mathlib.Core.List.{List, [], _∷_, _++_}
 use lib.ListN.{length, take, drop, set}
-use types.Run.{OneOf, miss}
 use denote.Enum.Declared.{tagOf}
-use lib.Dec.{eqb, leb}
-use borrow.Author.Tests.{le-leb, lt-leb, eq-eqb}
+use borrow.Author.Tests.{le-leb, lt-leb}
 use Rattle.meaning.specs.Octets.{octet, at16, part, implies, every}
-use Rattle.meaning.specs.Checks.{Checks, passed, check, firstFailed, settle}
-use Rattle.meaning.specs.Memory.{waiting, setClock, sound}
+use Rattle.meaning.specs.Checks.{firstFailed, settle}
+use Rattle.meaning.specs.Memory.{waiting, setClock}
 use Rattle.meaning.specs.Operation.{Op, parse, isSome, orNone}
 use Rattle.meaning.specs.Step.{after}
 use Rattle.meaning.specs.Reply.{complete}
-use Rattle.meaning.specs.Calls.{done, told, call, isCommand, isAcknowledgement, lengthField, operations, opsOf, lengthRight, records, carriedOut, acknowledged, deed, fits, messageChecks, message}
+use Rattle.meaning.specs.Calls.{done, told, call, isCommand, isAcknowledgement, lengthField, operations, opsOf, records, carriedOut, acknowledged, deed, fits, messageChecks, message}
 use Rattle.meaning.specs.Calls as calls
 use Rattle.meaning.proofs.Numbers.{Taken, Measured, length-right}
 use Rattle.octets.proofs.Splices.{part-is}
 use Rattle.endpoint.specs.declared.Outcome.{Outcome}
 use Rattle.endpoint.specs.declared.Outcome.the-variants.{Done, MemoryUnsound, MessageEmpty, MessageTooLong, TypeUnknown, LengthWrong, OperationMalformed, NoRoom, Idle, NothingPending, AlreadyWaiting, RoomTooSmall, NotPermitted, SendAgain, GivenUp}
-use Rattle.endpoint.proofs.Outcome.{the-type}
 use Rattle.endpoint.specs.Outcomes.{numberOf, lengthOf, Gives, reply, command, acknowledgement}
+use Rattle.endpoint.proofs.Outcome.{the-type}
 
 -- a refusal: the number, and nothing changed
 pub gives-told : (m room : List ℕ) (n : ℕ) (r : Outcome) {o : calls.Outcome} → o ≡ told n m room → numberOf r ≡ n → lengthOf r ≡ 0 → Gives o r m room

@@ -1,10 +1,11 @@
--- Splices, one for each way in which octets are written: two stores, a part lent on, one write after another.
+-- Splices, one for each way in which octets are written: one store or two, a part lent on, one write after another.
 use Prim.Native.Nat.{ℕ, _+_, _-_, _≤_}
+use native.Mathlib.Nat.{add-zero}
 use native.Mathlib.Omega.{arith}
 use native.Mathlib.Numerals.{add-one}
 use mathlib.Core.Path.{_≡_, refl, sym, ap, _∙_}
 use mathlib.Core.List.{List, [], _∷_, _++_, append-assoc, append-nil}
-use lib.ListN.{length, take, drop, set, length-append, drop-of-length-le}
+use lib.ListN.{length, take, drop, set, length-append, take-append-drop, drop-of-length-le}
 use lib.Seq.{take-at, drop-append-add, drop-drop, length-take-le, take-length, sets-eq}
 use borrow.Rule.Slice.PartMut.{putMid, post-is}
 use Rattle.meaning.specs.Octets.{part, splice}
@@ -20,6 +21,16 @@ splice-all s v h =
 pub splice-front : (s v : List ℕ) → take (length v) (splice s 0 v) ≡ v
 unfolding splice
 splice-front s v = take-at v (drop (0 + length v) s) (length v) refl
+
+-- nothing written changes nothing
+pub splice-nil : (s : List ℕ) (i : ℕ) → splice s i [] ≡ s
+unfolding splice
+splice-nil s i = rw (add-zero, take-append-drop)
+
+-- one octet stored
+pub one-store : (s : List ℕ) (i a : ℕ) → i + 1 ≤ length s → set s i a ≡ splice s i (a ∷ [])
+unfolding splice
+one-store s i a h = sets-eq (a ∷ []) s i h ∙ append-assoc (take i s) (a ∷ []) (drop (i + 1) s)
 
 -- two octets stored, the second behind the first
 pub two-stores : (s : List ℕ) (i a b : ℕ) → i + 2 ≤ length s → set (set s i a) (i + 1) b ≡ splice s i (a ∷ b ∷ [])

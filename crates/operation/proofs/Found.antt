@@ -10,7 +10,7 @@ use lib.Seq.{drop-cons, drop-drop, getD-drop}
 use lib.Dec.{eqb}
 use borrow.Author.Tests.{le-leb, lt-leb, ne-eqb}
 use Rattle.meaning.specs.Octets.{at16, part}
-use Rattle.meaning.specs.Operation.{capabilities, read, set, subscribe, unsubscribe, Shape, named, valued, malformed, shape, bad, got, whole, shaped}
+use Rattle.meaning.specs.Operation.{read, set, subscribe, unsubscribe, Shape, named, valued, malformed, shape, bad, got, whole, shaped}
 use Rattle.meaning.specs.Operation as operation
 use Rattle.operation.specs.declared.Op.{Op}
 use Rattle.operation.specs.declared.Op.the-variants.{Capabilities, Read, Set, Subscribe, Unsubscribe}

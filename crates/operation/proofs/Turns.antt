@@ -1,5 +1,6 @@
 -- One turn of a loop over the operations of a list: what is parsed from a position, by what the position hands out.
-use Prim.Native.Nat.{ℕ}
+use Prim.Native.Nat.{ℕ, _+_, _≤_, _<_}
+use native.Mathlib.Omega.{arith}
 use mathlib.Core.Path.{_≡_, refl, sym, ap, _∙_}
 use mathlib.Core.Bool.{true, false≢true}
 use mathlib.Core.List.{List, [], _∷_}
@@ -9,9 +10,10 @@ use Rattle.meaning.specs.Operation.{follow, more, parse, isSome, orNone}
 use Rattle.meaning.specs.Operation as operation
 use Rattle.meaning.proofs.Encode.{parse-step, parse-nil}
 use Rattle.operation.specs.declared.Op.{Op}
+use Rattle.operation.specs.declared.Op.the-variants.{Capabilities, Read, Set, Subscribe, Unsubscribe}
 use Rattle.operation.specs.declared.Handed.{Handed}
 use Rattle.operation.specs.declared.Handed.the-variants.{Operation, Malformed, End}
-use Rattle.operation.specs.Handing.{opOf, Handing, ended, found, first, handing, Reached}
+use Rattle.operation.specs.Handing.{opOf, nameOf, fromOf, sizeOf, Inside, Handing, ended, found, first, handing, Reached}
 
 -- what `hand_out` says of its result
 abbrev pub HandsOut : List ℕ → ℕ → Handed → Type 0
@@ -67,3 +69,28 @@ module _ (s : List ℕ) (at next : ℕ) (o : Op) (e : handing s (Operation o nex
   turn-ops w =
       ap orNone (turn s at next o e)
       ∙ more-ops (opOf s o) (parse (drop next s)) (sym (ap isSome (turn s at next o e)) ∙ w)
+
+-- ---- the fields of an operation that lies within a list
+
+pub inside-name : (n : ℕ) (o : Op) → Inside n o → nameOf o < 65536
+unfolding nameOf
+inside-name n Capabilities h = omega arith
+inside-name n (Read name) h = h
+inside-name n (Set name from size) h = h .0
+inside-name n (Subscribe name) h = h
+inside-name n (Unsubscribe name) h = h
+
+pub inside-value : (n : ℕ) (o : Op) → Inside n o → fromOf o + sizeOf o ≤ n
+unfolding fromOf sizeOf
+inside-value n Capabilities h = omega arith
+inside-value n (Read name) h = omega arith
+inside-value n (Set name from size) h = h .1
+inside-value n (Subscribe name) h = omega arith
+inside-value n (Unsubscribe name) h = omega arith
+
+pub inside-within : (n k : ℕ) (o : Op) → n ≤ k → Inside n o → Inside k o
+inside-within n k Capabilities l h = h
+inside-within n k (Read name) l h = h
+inside-within n k (Set name from size) l h = (h .0, omega (arith, h .1, l))
+inside-within n k (Subscribe name) l h = h
+inside-within n k (Unsubscribe name) l h = h

@@ -18,6 +18,28 @@ opOf s (Set n from size) = set n (part s from size)
 opOf s (Subscribe n) = subscribe n
 opOf s (Unsubscribe n) = unsubscribe n
 
+-- the name of an operation, and where its value lies; 0 where it has none
+unfoldable pub nameOf : Op → ℕ
+nameOf Capabilities = 0
+nameOf (Read n) = n
+nameOf (Set n from size) = n
+nameOf (Subscribe n) = n
+nameOf (Unsubscribe n) = n
+
+unfoldable pub fromOf : Op → ℕ
+fromOf Capabilities = 0
+fromOf (Read n) = 0
+fromOf (Set n from size) = from
+fromOf (Subscribe n) = 0
+fromOf (Unsubscribe n) = 0
+
+unfoldable pub sizeOf : Op → ℕ
+sizeOf Capabilities = 0
+sizeOf (Read n) = 0
+sizeOf (Set n from size) = size
+sizeOf (Subscribe n) = 0
+sizeOf (Unsubscribe n) = 0
+
 -- what octets hand out: the end where there are none, else what their first operation is
 pub data Handing : Type 0 where
   ended : Handing

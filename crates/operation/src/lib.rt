@@ -3,7 +3,7 @@
 ghost use mathlib.Core.Path.{_≡_};
 ghost use lib.ListN.{length, drop};
 ghost use Rattle.meaning.specs.Operation.{parse, isSome};
-ghost use Rattle.operation.specs.Handing.{first, handing, Reached};
+ghost use Rattle.operation.specs.Handing.{nameOf, fromOf, sizeOf, first, handing, Reached};
 
 // An operation. The value of a set lies in the list: where it starts, and its length.
 pub enum Op {
@@ -69,5 +69,44 @@ pub fn whole(list: &[u8]) -> bool
             Handed::Malformed => return false,
             Handed::End => return true,
         }
+    }
+}
+
+// The name of an operation; 0 where it has none.
+pub fn name_of(op: Op) -> usize
+    ensures { λ r. ⌜ r ≡ nameOf op ⌝ }
+{
+    match op {
+        Op::Capabilities => 0,
+        Op::Read(name) => name,
+        Op::Set(name, _, _) => name,
+        Op::Subscribe(name) => name,
+        Op::Unsubscribe(name) => name,
+    }
+}
+
+// Where the value of a set starts; 0 for any other operation.
+pub fn from_of(op: Op) -> usize
+    ensures { λ r. ⌜ r ≡ fromOf op ⌝ }
+{
+    match op {
+        Op::Capabilities => 0,
+        Op::Read(_) => 0,
+        Op::Set(_, from, _) => from,
+        Op::Subscribe(_) => 0,
+        Op::Unsubscribe(_) => 0,
+    }
+}
+
+// The length of the value of a set; 0 for any other operation.
+pub fn size_of(op: Op) -> usize
+    ensures { λ r. ⌜ r ≡ sizeOf op ⌝ }
+{
+    match op {
+        Op::Capabilities => 0,
+        Op::Read(_) => 0,
+        Op::Set(_, _, size) => size,
+        Op::Subscribe(_) => 0,
+        Op::Unsubscribe(_) => 0,
     }
 }

@@ -3,19 +3,15 @@ use Prim.Native.Nat.{ℕ, suc, _+_, _*_, _≤_, _<_}
 use native.Mathlib.Omega.{arith}
 use native.Mathlib.Numerals.{add-one}
 use mathlib.Core.Path.{_≡_, refl, sym, ap, _∙_}
-use mathlib.Core.List.{List, [], _∷_, _++_, append-assoc}
-use lib.ListN.{length, take, drop, set, take-append-drop}
-use lib.Seq.{sets-eq, take-suc, length-take-le}
+use mathlib.Core.List.{List, [], _∷_, _++_}
+use lib.ListN.{length, take, set, take-append-drop}
+use lib.Seq.{take-suc, length-take-le}
 use Rattle.meaning.specs.Octets.{be16, flat, splice}
 use Rattle.meaning.specs.Table.{row, nobody, free, rows, rowAt}
 use Rattle.meaning.specs.Reply.{heldOctets, shortOctets, failedOctets, allNames}
 use Rattle.meaning.proofs.Lists.{flat-append}
-use Rattle.octets.proofs.Splices.{then}
+use Rattle.octets.proofs.Splices.{one-store, then}
 use Rattle.records.proofs.Lengths.{nameOctets, some-names-length}
-
-pub one-store : (s : List ℕ) (i a : ℕ) → i + 1 ≤ length s → set s i a ≡ splice s i (a ∷ [])
-unfolding splice
-one-store s i a h = sets-eq (a ∷ []) s i h ∙ append-assoc (take i s) (a ∷ []) (drop (i + 1) s)
 
 pub held-written : (s v : List ℕ) (at name : ℕ) {s₁ s₂ s₃ : List ℕ} → at + (4 + length v) ≤ length s → s₁ ≡ splice s at (be16 name)
     → s₂ ≡ splice s₁ (at + 2) (be16 (length v)) → s₃ ≡ splice s₂ (at + 4) v

@@ -1,9 +1,8 @@
 -- The loop that writes the records of a kind: what is known before each turn, and what a turn writes.
 use Prim.Native.Nat.{ℕ, _+_, _≤_}
-use native.Mathlib.Nat.{add-zero, add-assoc}
 use native.Mathlib.Omega.{arith}
 use types.Run.{OneOf}
-use mathlib.Core.Path.{_≡_, refl, sym, ap, ap₂, _∙_}
+use mathlib.Core.Path.{_≡_, refl, sym, ap, _∙_}
 use mathlib.Core.Bool.{true}
 use mathlib.Core.List.{List, [], _∷_, _++_}
 use lib.ListN.{length, length-append}
@@ -15,7 +14,7 @@ use Rattle.meaning.specs.Step.{step, answer, answers, after}
 use Rattle.meaning.specs.Reply.{Records, joined, recordOf, gathered, heldOctets, shortOctets, failedOctets}
 use Rattle.meaning.specs.Calls.{records}
 use Rattle.meaning.proofs.Lists.{flat-append, splice-length}
-use Rattle.octets.proofs.Splices.{splice-splice}
+use Rattle.octets.proofs.Splices.{splice-nil, splice-splice}
 use Rattle.operation.specs.declared.Op.{Op}
 use Rattle.operation.specs.declared.Handed.{Handed}
 use Rattle.operation.specs.declared.Handed.the-variants.{Operation}
@@ -28,7 +27,7 @@ use Rattle.command.proofs.Walk.{Under, rest, under-start, under-end, under-rest
 use Rattle.reply.specs.declared.Kind.{Kind}
 use Rattle.reply.specs.declared.Kind.the-variants.{Values, ReadErrors, Updates, UpdateErrors, LongUpdates}
 use Rattle.reply.specs.Sections.{section, Wrote}
-use Rattle.reply.proofs.Spelling.{splice-nil, spelt}
+use Rattle.reply.proofs.Spelling.{spelt}
 
 section-joined : (k : Kind) (r s : Records) → section k (joined r s) ≡ section k r ++ section k s
 unfolding section
@@ -72,21 +71,21 @@ module _ (k : Kind) (m list out₀ : List ℕ) (at : ℕ) (copy out : List ℕ) 
       let n : left k copy list from ≡ [] = ap (λ (os : List _). section k (records copy os)) (e .0) ∙ section-none k copy in
       (omega (arith, u .ends, ap length n), e .1, sym (splice-nil out end) ∙ ap (splice out end) (sym n) ∙ u .leads)
 
-  module _ (o : Op) (next : ℕ) (e : h ≡ Operation o next) (copy′ : List ℕ) (a : Answer) (q : copy′ ≡ step copy (opOf list o)) (b : answerOf copy′ list a ≡ answer copy (opOf list o)) where
+  module _ (o : Op) (next : ℕ) (e : h ≡ Operation o next) (copy′ : List ℕ) (a : Answer) (q : copy′ ≡ step copy (opOf list o)) (b : answerOf copy′ list o a ≡ answer copy (opOf list o)) where
     -- the record of this turn, and those to come
-    turned : left k copy list from ≡ spelt k copy′ list a ++ left k copy′ list next
+    turned : left k copy list from ≡ spelt k copy′ list o a ++ left k copy′ list next
     unfolding records gathered answers
     turned =
         rw (under-rest m list copy from (u .under) h hands o next e, b, q)
         (section-joined k (recordOf (answer copy (opOf list o))) (gathered (answers (step copy (opOf list o)) (rest list next))))
 
-    pub turn-fits : end + length (spelt k copy′ list a) ≤ length out
+    pub turn-fits : end + length (spelt k copy′ list o a) ≤ length out
     turn-fits =
-        omega (arith, u .ends, u .same, u .fits, ap length turned, length-append (spelt k copy′ list a) (left k copy′ list next))
+        omega (arith, u .ends, u .same, u .fits, ap length turned, length-append (spelt k copy′ list o a) (left k copy′ list next))
 
-    pub writing-turn : (end′ : ℕ) (out′ : List ℕ) → Wrote out end (spelt k copy′ list a) end′ out′ → Writing k m list out₀ at copy′ out′ end′ next
+    pub writing-turn : (end′ : ℕ) (out′ : List ℕ) → Wrote out end (spelt k copy′ list o a) end′ out′ → Writing k m list out₀ at copy′ out′ end′ next
     writing-turn end′ out′ w =
-        let v = spelt k copy′ list a in
+        let v = spelt k copy′ list o a in
         let r = left k copy′ list next in
         record {
           under = under-turn m list copy from (u .under) h hands o next e copy′ q;

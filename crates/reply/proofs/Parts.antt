@@ -1,26 +1,22 @@
 -- A reply put together: octets written one after another, the elements by their parts, and that each part fits where the reply does.
-use Prim.Native.Nat.{ℕ, _+_, _≤_, _<_}
-use native.Mathlib.Nat.{add-zero, zero-add}
+use Prim.Native.Nat.{ℕ, _+_, _≤_}
+use native.Mathlib.Nat.{zero-add}
 use native.Mathlib.Omega.{arith}
 use mathlib.Core.Path.{_≡_, refl, sym, ap, _∙_}
 use mathlib.Core.Logic.{_≢_}
-use mathlib.Core.Bool.{Bool, true, false, _||_}
-use mathlib.Core.List.{List, [], _∷_, _++_, append-nil}
+use mathlib.Core.Bool.{true, _||_}
+use mathlib.Core.List.{List, [], _∷_, _++_}
 use lib.ListN.{length, drop, length-append}
-use lib.Dec.{eqb}
 use Rattle.meaning.specs.Octets.{be16, flat, nonempty, splice}
-use Rattle.meaning.specs.Memory.{sound}
 use Rattle.meaning.specs.Operation.{parse, orNone}
-use Rattle.meaning.specs.Step.{after}
 use Rattle.meaning.specs.Reply.{Held, Failed, Records, heldOctets, shortOctets, failedOctets, longOctets, readContents, setContents, allNames, element, anyRead, anySet, complete}
 use Rattle.meaning.proofs.Lists.{splice-length}
 use Rattle.meaning.proofs.Kept.{after-sound}
-use Rattle.meaning.proofs.Records.{Fits, fits-opened, read-length, set-length, complete-length}
+use Rattle.meaning.proofs.Records.{Fits, fits-opened, set-length, complete-length}
 use Rattle.octets.proofs.Splices.{then}
 use Rattle.records.proofs.Lengths.{names-length}
 use Rattle.command.proofs.Sets.{long-of}
 use Rattle.tally.specs.declared.Tally.{Tally}
-use Rattle.tally.specs.Tallies.{tallyOf}
 use Rattle.tally.proofs.Lengths.{tally-fits}
 use Rattle.reply.specs.declared.Kind.{Kind}
 use Rattle.reply.specs.declared.Kind.the-variants.{Values, ReadErrors, Updates, UpdateErrors, LongUpdates}

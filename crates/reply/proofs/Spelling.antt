@@ -3,17 +3,20 @@ use Prim.Native.Nat.{ℕ, _+_, _≤_, _<_}
 use native.Mathlib.Nat.{add-zero}
 use native.Mathlib.Omega.{arith}
 use types.Run.{OneOf, miss}
-use mathlib.Core.Path.{_≡_, refl, sym, ap, _∙_}
+use mathlib.Core.Path.{_≡_, refl, sym}
 use mathlib.Core.Bool.{Bool, true, false, cond}
-use mathlib.Core.List.{List, [], _∷_, _++_, append-nil}
-use lib.ListN.{length, take-append-drop}
+use mathlib.Core.List.{List, [], _∷_, append-nil}
+use lib.ListN.{length}
 use lib.Dec.{leb}
-use borrow.Author.Tests.{le-leb, lt-leb}
 use denote.Enum.Declared.{tagOf}
+use borrow.Author.Tests.{le-leb, lt-leb}
 use Rattle.meaning.specs.Octets.{part, flat, splice}
 use Rattle.meaning.specs.Step.{shown}
-use Rattle.meaning.specs.Reply.{Held, Failed, Records, kinds, held, recordOf, heldOctets, shortOctets, failedOctets}
+use Rattle.meaning.specs.Reply.{kinds, held, recordOf, heldOctets, shortOctets, failedOctets}
 use Rattle.meaning.proofs.Lists.{length-part}
+use Rattle.octets.proofs.Splices.{splice-nil}
+use Rattle.operation.specs.declared.Op.{Op}
+use Rattle.operation.specs.Handing.{nameOf, fromOf, sizeOf}
 use Rattle.command.specs.declared.Answer.{Answer}
 use Rattle.command.specs.declared.Answer.the-variants.{Names, Value, ReadError, Update, UpdateError, Silent}
 use Rattle.command.proofs.Answer.{the-type}
@@ -23,12 +26,8 @@ use Rattle.reply.specs.declared.Kind.the-variants.{Values, ReadErrors, U
 use Rattle.reply.specs.Sections.{section, Wrote}
 
 -- the octets of the record of an answer, where it is of a kind
-abbrev pub spelt : Kind → List ℕ → List ℕ → Answer → List ℕ
-spelt k m s a = section k (recordOf (answerOf m s a))
-
-pub splice-nil : (out : List ℕ) (at : ℕ) → splice out at [] ≡ out
-unfolding splice
-splice-nil out at = rw (add-zero, take-append-drop)
+abbrev pub spelt : Kind → List ℕ → List ℕ → Op → Answer → List ℕ
+spelt k m s o a = section k (recordOf (answerOf m s o a))
 
 pub wrote-none : (out : List ℕ) (at : ℕ) {w : List ℕ} → w ≡ [] → Wrote out at w at out
 wrote-none out at e = rw (e, splice-nil out at) (sym (add-zero at), refl)
@@ -40,44 +39,48 @@ one : {A : Type 0} (f : A → List ℕ) (x : A) → flat f (x ∷ []) ≡ f x
 unfolding flat
 one f x = append-nil (f x)
 
-module _ (m s : List ℕ) (k : Kind) (a : Answer) where
+module _ (m s : List ℕ) (o : Op) (k : Kind) (a : Answer) where
   -- ---- an answer of the kind
 
-  pub value-spelt : {n p : ℕ} → k ≡ Values → a ≡ Value n p → spelt k m s a ≡ heldOctets (record { name = n; value = shown m p })
+  pub value-spelt : {p : ℕ} → k ≡ Values → a ≡ Value p → spelt k m s o a ≡ heldOctets (record { name = nameOf o; value = shown m p })
   unfolding section answerOf recordOf
   value-spelt e f = rw (e, f) (one heldOctets _)
 
-  pub readError-spelt : {n c : ℕ} → k ≡ ReadErrors → a ≡ ReadError n c → spelt k m s a ≡ failedOctets (record { name = n; cause = c })
+  pub readError-spelt : {c : ℕ} → k ≡ ReadErrors → a ≡ ReadError c → spelt k m s o a ≡ failedOctets (record { name = nameOf o; cause = c })
   unfolding section answerOf recordOf
   readError-spelt e f = rw (e, f) (one failedOctets _)
 
-  pub updateError-spelt : {n c : ℕ} → k ≡ UpdateErrors → a ≡ UpdateError n c → spelt k m s a ≡ failedOctets (record { name = n; cause = c })
+  pub updateError-spelt : {c : ℕ} → k ≡ UpdateErrors → a ≡ UpdateError c → spelt k m s o a ≡ failedOctets (record { name = nameOf o; cause = c })
   unfolding section answerOf recordOf
   updateError-spelt e f = rw (e, f) (one failedOctets _)
 
-  module _ (n from size : ℕ) (f : a ≡ Update n from size) (h : from + size ≤ length s) where
-    long : length (part s from size) ≡ size
-    long = length-part s from size h
+  -- a value set: a part of the list
+  module _ (f : a ≡ Update) (h : fromOf o + sizeOf o ≤ length s) where
+    abbrev sent : List ℕ
+    sent = part s (fromOf o) (sizeOf o)
 
-    pub short-spelt : k ≡ Updates → size ≤ 255 → spelt k m s a ≡ shortOctets (record { name = n; value = part s from size })
+    long : length sent ≡ sizeOf o
+    long = length-part s (fromOf o) (sizeOf o) h
+
+    pub short-spelt : k ≡ Updates → sizeOf o ≤ 255 → spelt k m s o a ≡ shortOctets (record { name = nameOf o; value = sent })
     unfolding section answerOf recordOf
-    short-spelt e l = rw (e, f, le-leb (length (part s from size)) 255 (omega (arith, long, l))) (one shortOctets _)
+    short-spelt e l = rw (e, f, le-leb (length sent) 255 (omega (arith, long, l))) (one shortOctets _)
 
-    pub long-spelt : k ≡ LongUpdates → 255 < size → spelt k m s a ≡ heldOctets (record { name = n; value = part s from size })
+    pub long-spelt : k ≡ LongUpdates → 255 < sizeOf o → spelt k m s o a ≡ heldOctets (record { name = nameOf o; value = sent })
     unfolding section answerOf recordOf
-    long-spelt e l = rw (e, f, lt-leb (length (part s from size)) 255 (omega (arith, long, l))) (one heldOctets _)
+    long-spelt e l = rw (e, f, lt-leb (length sent) 255 (omega (arith, long, l))) (one heldOctets _)
 
-    pub not-short : k ≡ Updates → 255 < size → spelt k m s a ≡ []
+    pub not-short : k ≡ Updates → 255 < sizeOf o → spelt k m s o a ≡ []
     unfolding section answerOf recordOf flat
-    not-short e l = rw (e, f, lt-leb (length (part s from size)) 255 (omega (arith, long, l)))
+    not-short e l = rw (e, f, lt-leb (length sent) 255 (omega (arith, long, l)))
 
-    pub not-long : k ≡ LongUpdates → size ≤ 255 → spelt k m s a ≡ []
+    pub not-long : k ≡ LongUpdates → sizeOf o ≤ 255 → spelt k m s o a ≡ []
     unfolding section answerOf recordOf flat
-    not-long e l = rw (e, f, le-leb (length (part s from size)) 255 (omega (arith, long, l)))
+    not-long e l = rw (e, f, le-leb (length sent) 255 (omega (arith, long, l)))
 
 -- ---- an answer of another kind
 
-module _ (m s : List ℕ) where
+module _ (m s : List ℕ) (o : Op) where
   -- a value set is in neither of the other sections
   update-elsewhere : (n : ℕ) (v : List ℕ) (b : Bool)
       → let r = cond b (kinds false [] [] (held n v) [] []) (kinds false [] [] [] [] (held n v)) in
@@ -86,63 +89,63 @@ module _ (m s : List ℕ) where
   update-elsewhere n v true = (refl, refl, refl)
   update-elsewhere n v false = (refl, refl, refl)
 
-  not-value : (a : Answer) → OneOf (0 ∷ 2 ∷ 3 ∷ 4 ∷ 5 ∷ []) (tagOf the-type a) → spelt Values m s a ≡ []
+  not-value : (a : Answer) → OneOf (0 ∷ 2 ∷ 3 ∷ 4 ∷ 5 ∷ []) (tagOf the-type a) → spelt Values m s o a ≡ []
   unfolding section answerOf recordOf flat
   not-value Names t = refl
-  not-value (Value n p) t = absurd (miss (0 ∷ 2 ∷ 3 ∷ 4 ∷ 5 ∷ []) 1 tt t)
-  not-value (ReadError n c) t = refl
-  not-value (Update n from size) t = update-elsewhere n (part s from size) (leb (length (part s from size)) 255) .0
-  not-value (UpdateError n c) t = refl
+  not-value (Value p) t = absurd (miss (0 ∷ 2 ∷ 3 ∷ 4 ∷ 5 ∷ []) 1 tt t)
+  not-value (ReadError c) t = refl
+  not-value Update t = update-elsewhere (nameOf o) (part s (fromOf o) (sizeOf o)) (leb (length (part s (fromOf o) (sizeOf o))) 255) .0
+  not-value (UpdateError c) t = refl
   not-value Silent t = refl
 
-  not-readError : (a : Answer) → OneOf (0 ∷ 1 ∷ 3 ∷ 4 ∷ 5 ∷ []) (tagOf the-type a) → spelt ReadErrors m s a ≡ []
+  not-readError : (a : Answer) → OneOf (0 ∷ 1 ∷ 3 ∷ 4 ∷ 5 ∷ []) (tagOf the-type a) → spelt ReadErrors m s o a ≡ []
   unfolding section answerOf recordOf flat
   not-readError Names t = refl
-  not-readError (Value n p) t = refl
-  not-readError (ReadError n c) t = absurd (miss (0 ∷ 1 ∷ 3 ∷ 4 ∷ 5 ∷ []) 2 tt t)
-  not-readError (Update n from size) t = update-elsewhere n (part s from size) (leb (length (part s from size)) 255) .1
-  not-readError (UpdateError n c) t = refl
+  not-readError (Value p) t = refl
+  not-readError (ReadError c) t = absurd (miss (0 ∷ 1 ∷ 3 ∷ 4 ∷ 5 ∷ []) 2 tt t)
+  not-readError Update t = update-elsewhere (nameOf o) (part s (fromOf o) (sizeOf o)) (leb (length (part s (fromOf o) (sizeOf o))) 255) .1
+  not-readError (UpdateError c) t = refl
   not-readError Silent t = refl
 
-  not-update : (a : Answer) → OneOf (0 ∷ 1 ∷ 2 ∷ 4 ∷ 5 ∷ []) (tagOf the-type a) → spelt Updates m s a ≡ []
+  not-update : (a : Answer) → OneOf (0 ∷ 1 ∷ 2 ∷ 4 ∷ 5 ∷ []) (tagOf the-type a) → spelt Updates m s o a ≡ []
   unfolding section answerOf recordOf flat
   not-update Names t = refl
-  not-update (Value n p) t = refl
-  not-update (ReadError n c) t = refl
-  not-update (Update n from size) t = absurd (miss (0 ∷ 1 ∷ 2 ∷ 4 ∷ 5 ∷ []) 3 tt t)
-  not-update (UpdateError n c) t = refl
+  not-update (Value p) t = refl
+  not-update (ReadError c) t = refl
+  not-update Update t = absurd (miss (0 ∷ 1 ∷ 2 ∷ 4 ∷ 5 ∷ []) 3 tt t)
+  not-update (UpdateError c) t = refl
   not-update Silent t = refl
 
-  not-updateError : (a : Answer) → OneOf (0 ∷ 1 ∷ 2 ∷ 3 ∷ 5 ∷ []) (tagOf the-type a) → spelt UpdateErrors m s a ≡ []
+  not-updateError : (a : Answer) → OneOf (0 ∷ 1 ∷ 2 ∷ 3 ∷ 5 ∷ []) (tagOf the-type a) → spelt UpdateErrors m s o a ≡ []
   unfolding section answerOf recordOf flat
   not-updateError Names t = refl
-  not-updateError (Value n p) t = refl
-  not-updateError (ReadError n c) t = refl
-  not-updateError (Update n from size) t = update-elsewhere n (part s from size) (leb (length (part s from size)) 255) .2
-  not-updateError (UpdateError n c) t = absurd (miss (0 ∷ 1 ∷ 2 ∷ 3 ∷ 5 ∷ []) 4 tt t)
+  not-updateError (Value p) t = refl
+  not-updateError (ReadError c) t = refl
+  not-updateError Update t = update-elsewhere (nameOf o) (part s (fromOf o) (sizeOf o)) (leb (length (part s (fromOf o) (sizeOf o))) 255) .2
+  not-updateError (UpdateError c) t = absurd (miss (0 ∷ 1 ∷ 2 ∷ 3 ∷ 5 ∷ []) 4 tt t)
   not-updateError Silent t = refl
 
-  not-longUpdate : (a : Answer) → OneOf (0 ∷ 1 ∷ 2 ∷ 4 ∷ 5 ∷ []) (tagOf the-type a) → spelt LongUpdates m s a ≡ []
+  not-longUpdate : (a : Answer) → OneOf (0 ∷ 1 ∷ 2 ∷ 4 ∷ 5 ∷ []) (tagOf the-type a) → spelt LongUpdates m s o a ≡ []
   unfolding section answerOf recordOf flat
   not-longUpdate Names t = refl
-  not-longUpdate (Value n p) t = refl
-  not-longUpdate (ReadError n c) t = refl
-  not-longUpdate (Update n from size) t = absurd (miss (0 ∷ 1 ∷ 2 ∷ 4 ∷ 5 ∷ []) 3 tt t)
-  not-longUpdate (UpdateError n c) t = refl
+  not-longUpdate (Value p) t = refl
+  not-longUpdate (ReadError c) t = refl
+  not-longUpdate Update t = absurd (miss (0 ∷ 1 ∷ 2 ∷ 4 ∷ 5 ∷ []) 3 tt t)
+  not-longUpdate (UpdateError c) t = refl
   not-longUpdate Silent t = refl
 
   module _ (k : Kind) (a : Answer) where
-    pub no-Values : k ≡ Values → OneOf (0 ∷ 2 ∷ 3 ∷ 4 ∷ 5 ∷ []) (tagOf the-type a) → spelt k m s a ≡ []
+    pub no-Values : k ≡ Values → OneOf (0 ∷ 2 ∷ 3 ∷ 4 ∷ 5 ∷ []) (tagOf the-type a) → spelt k m s o a ≡ []
     no-Values e t = rw e (not-value a t)
 
-    pub no-ReadErrors : k ≡ ReadErrors → OneOf (0 ∷ 1 ∷ 3 ∷ 4 ∷ 5 ∷ []) (tagOf the-type a) → spelt k m s a ≡ []
+    pub no-ReadErrors : k ≡ ReadErrors → OneOf (0 ∷ 1 ∷ 3 ∷ 4 ∷ 5 ∷ []) (tagOf the-type a) → spelt k m s o a ≡ []
     no-ReadErrors e t = rw e (not-readError a t)
 
-    pub no-Updates : k ≡ Updates → OneOf (0 ∷ 1 ∷ 2 ∷ 4 ∷ 5 ∷ []) (tagOf the-type a) → spelt k m s a ≡ []
+    pub no-Updates : k ≡ Updates → OneOf (0 ∷ 1 ∷ 2 ∷ 4 ∷ 5 ∷ []) (tagOf the-type a) → spelt k m s o a ≡ []
     no-Updates e t = rw e (not-update a t)
 
-    pub no-UpdateErrors : k ≡ UpdateErrors → OneOf (0 ∷ 1 ∷ 2 ∷ 3 ∷ 5 ∷ []) (tagOf the-type a) → spelt k m s a ≡ []
+    pub no-UpdateErrors : k ≡ UpdateErrors → OneOf (0 ∷ 1 ∷ 2 ∷ 3 ∷ 5 ∷ []) (tagOf the-type a) → spelt k m s o a ≡ []
     no-UpdateErrors e t = rw e (not-updateError a t)
 
-    pub no-LongUpdates : k ≡ LongUpdates → OneOf (0 ∷ 1 ∷ 2 ∷ 4 ∷ 5 ∷ []) (tagOf the-type a) → spelt k m s a ≡ []
+    pub no-LongUpdates : k ≡ LongUpdates → OneOf (0 ∷ 1 ∷ 2 ∷ 4 ∷ 5 ∷ []) (tagOf the-type a) → spelt k m s o a ≡ []
     no-LongUpdates e t = rw e (not-longUpdate a t)

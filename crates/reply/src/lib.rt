@@ -10,10 +10,12 @@ ghost use Rattle.meaning.specs.Memory.{sound};
 ghost use Rattle.meaning.specs.Operation.{parse, isSome, orNone};
 ghost use Rattle.meaning.specs.Step.{shown, after};
 ghost use Rattle.meaning.specs.Reply.{recordOf, heldOctets, longOctets, readContents, setContents, allNames, element, anyRead, anySet, complete};
+ghost use Rattle.operation.specs.Handing.{Inside};
 ghost use Rattle.command.specs.Answers.{answerOf, Told};
 ghost use Rattle.reply.specs.Sections.{section, counted, recordsOf, Wrote, Ready, Fitting};
 use command::Answer;
 use operation::Handed;
+use operation::Op;
 use tally::Tally;
 
 // The kinds of record that a reply holds, in its order.
@@ -39,26 +41,29 @@ fn write_value(m: &[u8], k: usize, name: usize, out: &mut [u8], at: usize) -> us
     records::write_held(out, at, name, &sums)
 }
 
-// The record of an answer, where it is of the kind asked for; the place after it.
-fn write_answer(m: &[u8], list: &[u8], a: Answer, kind: Kind, out: &mut [u8], at: usize) -> usize
-    requires { ⌜ (length (now m) ≡ memoryLength) × (length (now list) ≤ 2048) × Told (length (now list)) a × (at + length (section kind (recordOf (answerOf (now m) (now list) a))) ≤ length (now out)) ⌝ }
-    ensures { λ r. ⌜ Wrote (now (out .entry)) at (section kind (recordOf (answerOf (now (m .entry)) (now (list .entry)) a))) r (now (out .exit)) ⌝ }
+// The record of an answer to an operation, where it is of the kind asked for; the place after it.
+fn spell(m: &[u8], list: &[u8], op: Op, a: Answer, kind: Kind, out: &mut [u8], at: usize) -> usize
+    requires { ⌜ (length (now m) ≡ memoryLength) × (length (now list) ≤ 2048) × Inside (length (now list)) op × Told a × (at + length (section kind (recordOf (answerOf (now m) (now list) op a))) ≤ length (now out)) ⌝ }
+    ensures { λ r. ⌜ Wrote (now (out .entry)) at (section kind (recordOf (answerOf (now (m .entry)) (now (list .entry)) op a))) r (now (out .exit)) ⌝ }
 {
+    let name = operation::name_of(op);
+    let from = operation::from_of(op);
+    let size = operation::size_of(op);
     match kind {
         Kind::Values => {
-            let Answer::Value(name, k) = a else {
+            let Answer::Value(k) = a else {
                 return at;
             };
             write_value(m, k, name, out, at)
         }
         Kind::ReadErrors => {
-            let Answer::ReadError(name, cause) = a else {
+            let Answer::ReadError(cause) = a else {
                 return at;
             };
             records::write_failed(out, at, name, cause)
         }
         Kind::Updates => {
-            let Answer::Update(name, from, size) = a else {
+            let Answer::Update = a else {
                 return at;
             };
             if 255 < size {
@@ -67,13 +72,13 @@ fn write_answer(m: &[u8], list: &[u8], a: Answer, kind: Kind, out: &mut [u8], at
             records::write_short(out, at, name, &list[from..from + size])
         }
         Kind::UpdateErrors => {
-            let Answer::UpdateError(name, cause) = a else {
+            let Answer::UpdateError(cause) = a else {
                 return at;
             };
             records::write_failed(out, at, name, cause)
         }
         Kind::LongUpdates => {
-            let Answer::Update(name, from, size) = a else {
+            let Answer::Update = a else {
                 return at;
             };
             if size <= 255 {
@@ -98,7 +103,7 @@ fn write_section(list: &[u8], kind: Kind, copy: &mut [u8], out: &mut [u8], at: u
             return end;
         };
         let a = command::carry_out(copy, list, op);
-        end = write_answer(copy, list, a, kind, out, end);
+        end = spell(copy, list, op, a, kind, out, end);
         from = next;
     }
 }

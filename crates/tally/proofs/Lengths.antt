@@ -2,15 +2,15 @@
 use Prim.Native.Nat.{ℕ, _+_, _≤_}
 use native.Mathlib.Nat.{zero-add}
 use native.Mathlib.Omega.{arith}
-use mathlib.Core.Path.{_≡_, refl, sym, ap, ap₂, _∙_}
-use mathlib.Core.Bool.{Bool, true, false, _&&_, _||_, not, cond, and-true}
+use mathlib.Core.Path.{_≡_, refl, sym, ap₂}
+use mathlib.Core.Bool.{Bool, true, false, _||_, not, cond, and-true}
 use mathlib.Core.List.{List, [], _∷_}
 use lib.ListN.{length}
-use lib.Dec.{eqb, leb}
+use lib.Dec.{eqb}
 use borrow.Author.Tests.{ne-eqb}
 use Rattle.meaning.specs.Octets.{be16, flat, nonempty, every}
 use Rattle.meaning.specs.Operation.{Op}
-use Rattle.meaning.specs.Reply.{Held, Failed, Records, heldOctets, shortOctets, failedOctets, readContents, setContents, allNames, element, complete, countsFit}
+use Rattle.meaning.specs.Reply.{Held, Failed, Records, heldOctets, readContents, setContents, allNames, element, complete, countsFit}
 use Rattle.meaning.specs.Reply as reply
 use Rattle.meaning.specs.Calls.{records, carriedOut, fits}
 use Rattle.meaning.proofs.Records.{read-length, set-length, complete-length}

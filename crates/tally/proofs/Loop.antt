@@ -2,21 +2,21 @@
 use Prim.Native.Nat.{ℕ, _+_, _*_, _≤_, _<_}
 use native.Mathlib.Omega.{arith}
 use types.Run.{OneOf}
-use mathlib.Core.Path.{_≡_, refl, sym, ap, _∙_}
+use mathlib.Core.Path.{_≡_, refl, sym, _∙_}
 use mathlib.Core.Logic.{_≢_}
 use mathlib.Core.Bool.{Bool, true, false, cond}
-use mathlib.Core.List.{List, [], _∷_, _++_}
+use mathlib.Core.List.{List, [], _∷_}
 use lib.ListN.{length, length-take}
 use lib.Dec.{eqb, leb}
-use borrow.Author.Tests.{leb-true, eq-eqb, ne-eqb}
 use denote.Enum.Declared.{tagOf}
+use borrow.Author.Tests.{leb-true, eq-eqb, ne-eqb}
 use Rattle.meaning.specs.Octets.{be16, part, flat, below}
 use Rattle.meaning.specs.Table.{entryCount, rows, rowAt, commit}
-use Rattle.meaning.specs.Block.{sums, sumsOf}
+use Rattle.meaning.specs.Block.{sums}
 use Rattle.meaning.specs.Memory.{body, room, sound}
 use Rattle.meaning.specs.Operation.{parse, isSome}
 use Rattle.meaning.specs.Step.{step, answer, answers, after, shown}
-use Rattle.meaning.specs.Reply.{Held, Failed, Records, kinds, held, noRecords, joined, recordOf, gathered, heldOctets, shortOctets, failedOctets}
+use Rattle.meaning.specs.Reply.{kinds, held, recordOf, gathered, failedOctets}
 use Rattle.meaning.specs.Calls.{records}
 use Rattle.meaning.proofs.Lists.{length-part}
 use Rattle.meaning.proofs.Tests.{below-at}
@@ -24,8 +24,8 @@ use Rattle.operation.specs.declared.Op.{Op}
 use Rattle.operation.specs.declared.Handed.{Handed}
 use Rattle.operation.specs.declared.Handed.the-variants.{Operation}
 use Rattle.operation.proofs.Handed.{the-type}
-use Rattle.operation.specs.Handing.{opOf}
-use Rattle.operation.proofs.Turns.{HandsOut}
+use Rattle.operation.specs.Handing.{opOf, nameOf, fromOf, sizeOf, Inside}
+use Rattle.operation.proofs.Turns.{HandsOut, inside-value}
 use Rattle.command.specs.declared.Answer.{Answer}
 use Rattle.command.specs.declared.Answer.the-variants.{Names, Value, ReadError, Update, UpdateError, Silent}
 use Rattle.command.specs.Answers.{answerOf, Told}
@@ -76,44 +76,35 @@ none-light : (0 ≤ 4096) × (0 ≤ 4096)
 none-light = (omega arith, omega arith)
 
 -- the record of one answer, where the list has at most 2,048 octets
-pub told-light : (m s : List ℕ) (a : Answer) → length s ≤ 2048 → Told (length s) a → Light (recordOf (answerOf m s a))
+pub told-light : (m s : List ℕ) (o : Op) (a : Answer) → length s ≤ 2048 → Inside (length s) o → Told a → Light (recordOf (answerOf m s o a))
 unfolding answerOf recordOf flat
-told-light m s Names h t = record { values = none-light; readErrors = none-light; updates = none-light; updateErrors = none-light; longUpdates = none-light }
-told-light m s (Value n k) h t =
+told-light m s o Names h i t = record { values = none-light; readErrors = none-light; updates = none-light; updateErrors = none-light; longUpdates = none-light }
+told-light m s o (Value k) h i t =
     record {
-      values = (omega arith, omega (arith, held-octets n (shown m k), shown-short m k (t .1)));
+      values = (omega arith, omega (arith, held-octets (nameOf o) (shown m k), shown-short m k t));
       readErrors = none-light;
       updates = none-light;
       updateErrors = none-light;
       longUpdates = none-light;
     }
-told-light m s (ReadError n c) h t =
-    record { values = none-light; readErrors = failed-light n c; updates = none-light; updateErrors = none-light; longUpdates = none-light }
-told-light m s (Update n from size) h t = go (leb (length (part s from size)) 255)
+told-light m s o (ReadError c) h i t =
+    record { values = none-light; readErrors = failed-light (nameOf o) c; updates = none-light; updateErrors = none-light; longUpdates = none-light }
+told-light m s o Update h i t = go (leb (length v) 255)
   where
     v : List ℕ
-    v = part s from size
+    v = part s (fromOf o) (sizeOf o)
 
     l : length v ≤ 2048
-    l = omega (arith, length-part s from size (t .1), t .1, h)
+    l = omega (arith, length-part s (fromOf o) (sizeOf o) (inside-value (length s) o i), inside-value (length s) o i, h)
 
-    go : (b : Bool) → Light (cond b (kinds false [] [] (held n v) [] []) (kinds false [] [] [] [] (held n v)))
+    go : (b : Bool) → Light (cond b (kinds false [] [] (held (nameOf o) v) [] []) (kinds false [] [] [] [] (held (nameOf o) v)))
     go true =
-        record { values = none-light; readErrors = none-light; updates = (omega arith, omega (arith, short-octets n v, l)); updateErrors = none-light; longUpdates = none-light }
+        record { values = none-light; readErrors = none-light; updates = (omega arith, omega (arith, short-octets (nameOf o) v, l)); updateErrors = none-light; longUpdates = none-light }
     go false =
-        record { values = none-light; readErrors = none-light; updates = none-light; updateErrors = none-light; longUpdates = (omega arith, omega (arith, held-octets n v, l)) }
-told-light m s (UpdateError n c) h t =
-    record { values = none-light; readErrors = none-light; updates = none-light; updateErrors = failed-light n c; longUpdates = none-light }
-told-light m s Silent h t = record { values = none-light; readErrors = none-light; updates = none-light; updateErrors = none-light; longUpdates = none-light }
-
--- less than 2,048 octets are within 2,048
-pub told-within : (n : ℕ) (a : Answer) → n ≤ 2048 → Told n a → Told 2048 a
-told-within n Names h t = t
-told-within n (Value name k) h t = t
-told-within n (ReadError name c) h t = t
-told-within n (Update name from size) h t = (t .0, omega (arith, t .1, h))
-told-within n (UpdateError name c) h t = t
-told-within n Silent h t = t
+        record { values = none-light; readErrors = none-light; updates = none-light; updateErrors = none-light; longUpdates = (omega arith, omega (arith, held-octets (nameOf o) v, l)) }
+told-light m s o (UpdateError c) h i t =
+    record { values = none-light; readErrors = none-light; updates = none-light; updateErrors = failed-light (nameOf o) c; longUpdates = none-light }
+told-light m s o Silent h i t = record { values = none-light; readErrors = none-light; updates = none-light; updateErrors = none-light; longUpdates = none-light }
 
 -- ---- the loop
 
@@ -137,14 +128,17 @@ module _ (m list copy : List ℕ) (t : Tally) (at : ℕ) (u : Counting m list co
       (silent-added t ∙ unfold recordOf in rw (e .0) at (u .leads), below-more (4096 * at) 16777216 t (omega (arith, u .under .inside, long)) (u .small), e .1)
 
   pub counting-turn : (o : Op) (next : ℕ) → h ≡ Operation o next → length list ≤ 2048 → (copy′ : List ℕ) (a : Answer) (t′ : Tally)
-      → copy′ ≡ step copy (opOf list o) → answerOf copy′ list a ≡ answer copy (opOf list o) → Told (length list) a → Adds copy′ t a t′
+      → copy′ ≡ step copy (opOf list o) → answerOf copy′ list o a ≡ answer copy (opOf list o) → Told a → Adds copy′ t o a t′
       → Counting m list copy′ t′ next
   unfolding records gathered answers
   counting-turn o next e long copy′ a t′ q b told adds =
-      let x : t′ ≡ plus t (recordOf (answerOf copy′ list a)) = adds list told in
       let w = under-ahead m list copy at (u .under) h hands o next e in
+      let x : t′ ≡ plus t (recordOf (answerOf copy′ list o a)) = adds list (w .2) in
       record {
         under = under-turn m list copy at (u .under) h hands o next e copy′ q;
         leads = rw (x, b, q) (sym (plus-joined t (recordOf (answer copy (opOf list o))) _) ∙ rw (under-rest m list copy at (u .under) h hands o next e) at (u .leads));
-        small = rw x (below-more (4096 * at + 4096) (4096 * next) (plus t (recordOf (answerOf copy′ list a))) (omega (arith, w .0)) (plus-below (4096 * at) t _ (u .small) (told-light copy′ list a long told)));
+        small =
+            rw x
+            (below-more (4096 * at + 4096) (4096 * next) (plus t (recordOf (answerOf copy′ list o a))) (omega (arith, w .0))
+            (plus-below (4096 * at) t _ (u .small) (told-light copy′ list o a long (w .2) told)));
       }

@@ -1,16 +1,15 @@
 -- A tally and one record more, by the answer's kind; records joined are tallied one after another; how far a tally grows.
-use Prim.Native.Nat.{ℕ, _+_, _*_, _≤_, _<_}
+use Prim.Native.Nat.{ℕ, _+_, _≤_, _<_}
 use native.Mathlib.Nat.{add-zero, add-assoc}
 use native.Mathlib.Omega.{arith}
-use mathlib.Core.Path.{_≡_, refl, sym, ap, ap₂, _∙_}
-use mathlib.Core.Bool.{Bool, true, false, _||_, cond}
+use mathlib.Core.Path.{_≡_, refl, ap}
+use mathlib.Core.Bool.{Bool, true, false, _||_}
 use mathlib.Core.List.{List, [], _∷_, _++_, append-nil}
 use lib.ListN.{length, length-append}
-use lib.Dec.{leb}
 use borrow.Author.Tests.{le-leb, lt-leb}
 use Rattle.meaning.specs.Octets.{be16, flat}
 use Rattle.meaning.specs.Step.{names, value, readError, update, updateError, silent}
-use Rattle.meaning.specs.Reply.{Held, Failed, Records, joined, recordOf, heldOctets, shortOctets, failedOctets}
+use Rattle.meaning.specs.Reply.{Records, joined, recordOf, heldOctets, shortOctets, failedOctets}
 use Rattle.meaning.proofs.Lists.{flat-length}
 use Rattle.tally.specs.declared.Count.{Count}
 use Rattle.tally.specs.declared.Tally.{Tally}

@@ -7,7 +7,9 @@ use lib.ListN.{length}
 use lib.Dec.{eqb, leb}
 use Rattle.meaning.specs.Octets.{flat, every}
 use Rattle.meaning.specs.Reply.{Records, recordOf, heldOctets, shortOctets, failedOctets}
-use Rattle.command.specs.Answers.{answerOf, Told}
+use Rattle.operation.specs.declared.Op.{Op}
+use Rattle.operation.specs.Handing.{Inside}
+use Rattle.command.specs.Answers.{answerOf}
 use Rattle.command.specs.declared.Answer.{Answer}
 use Rattle.tally.specs.declared.Count.{Count}
 use Rattle.tally.specs.declared.Tally.{Tally}
@@ -46,9 +48,9 @@ Small b c = (c .count ≤ b) × (c .octets ≤ b)
 abbrev pub Below : ℕ → Tally → Type 0
 Below b t = Small b (t .values) × Small b (t .«read_errors») × Small b (t .updates) × Small b (t .«update_errors») × Small b (t .«long_updates»)
 
--- a tally with the record of an answer, whatever the list
-abbrev pub Adds : List ℕ → Tally → Answer → Tally → Type 0
-Adds m t a r = (s : List ℕ) → Told (length s) a → r ≡ plus t (recordOf (answerOf m s a))
+-- a tally with the record of an answer to an operation, whatever the list
+abbrev pub Adds : List ℕ → Tally → Op → Answer → Tally → Type 0
+Adds m t o a r = (s : List ℕ) → Inside (length s) o → r ≡ plus t (recordOf (answerOf m s o a))
 
 -- ---- the reply's length
 

@@ -9,10 +9,12 @@ ghost use Rattle.meaning.specs.Memory.{sound};
 ghost use Rattle.meaning.specs.Operation.{parse, isSome, orNone};
 ghost use Rattle.meaning.specs.Step.{shown, after};
 ghost use Rattle.meaning.specs.Calls.{records};
+ghost use Rattle.operation.specs.Handing.{Inside};
 ghost use Rattle.command.specs.Answers.{Told};
 ghost use Rattle.tally.specs.Tallies.{grown, tallyOf, Below, Adds, anyRead, anySet, readOctets, setOctets, elementLength, replyLength, tallyFits};
 use command::Answer;
 use operation::Handed;
+use operation::Op;
 
 // The records of a kind: how many, and their octets.
 pub struct Count {
@@ -52,10 +54,10 @@ fn shown_length(m: &[u8], k: usize) -> usize
     memory::body(m, k).len()
 }
 
-// A tally and the record of one answer more.
-fn add(t: Tally, m: &[u8], a: Answer) -> Tally
-    requires { ⌜ (length (now m) ≡ memoryLength) × Below 16777216 t × Told 2048 a ⌝ }
-    ensures { λ r. ⌜ Adds (now (m .entry)) t a r ⌝ }
+// A tally and the record of one answer more, to an operation.
+fn add(t: Tally, m: &[u8], op: Op, a: Answer) -> Tally
+    requires { ⌜ (length (now m) ≡ memoryLength) × Below 16777216 t × Inside 2048 op × Told a ⌝ }
+    ensures { λ r. ⌜ Adds (now (m .entry)) t op a r ⌝ }
 {
     let mut r = t;
     match a {
@@ -63,17 +65,18 @@ fn add(t: Tally, m: &[u8], a: Answer) -> Tally
             r.capabilities = true;
             r
         }
-        Answer::Value(_, k) => {
+        Answer::Value(k) => {
             let c = t.values;
             r.values = one_more(c, 4 + shown_length(m, k));
             r
         }
-        Answer::ReadError(_, _) => {
+        Answer::ReadError(_) => {
             let c = t.read_errors;
             r.read_errors = one_more(c, 3);
             r
         }
-        Answer::Update(_, _, size) => {
+        Answer::Update => {
+            let size = operation::size_of(op);
             if size <= 255 {
                 let c = t.updates;
                 r.updates = one_more(c, 3 + size);
@@ -83,7 +86,7 @@ fn add(t: Tally, m: &[u8], a: Answer) -> Tally
             r.long_updates = one_more(c, 4 + size);
             r
         }
-        Answer::UpdateError(_, _) => {
+        Answer::UpdateError(_) => {
             let c = t.update_errors;
             r.update_errors = one_more(c, 3);
             r
@@ -119,7 +122,7 @@ pub fn take(m: &[u8], list: &[u8], copy: &mut [u8]) -> Tally
             return t;
         };
         let a = command::carry_out(copy, list, op);
-        t = add(t, copy, a);
+        t = add(t, copy, op, a);
         at = next;
     }
 }

@@ -5,14 +5,14 @@ use native.Mathlib.Omega.{arith}
 use mathlib.Core.Path.{_≡_, refl}
 use mathlib.Core.Bool.{Bool, true, false, cond}
 use mathlib.Core.List.{List, [], _∷_, _++_, append-assoc}
-use lib.ListN.{length, getD, drop, set, length-append, take-append-drop, drop-of-length-le}
-use lib.Seq.{drop-cons, set-split}
+use lib.ListN.{length, getD, drop, set, length-append, drop-of-length-le}
+use lib.Seq.{drop-cons}
 use lib.Dec.{ltb}
 use lib.Bits.{bitAnd, and-le-r}
 use borrow.Author.Tests.{ltb-true, ltb-false, lt-ltb, le-ltb}
 use Rattle.meaning.specs.Octets.{splice}
 use Rattle.meaning.proofs.Lists.{splice-length}
-use Rattle.octets.proofs.Splices.{two-stores, splice-splice, then}
+use Rattle.octets.proofs.Splices.{splice-nil, one-store, two-stores, splice-splice, then}
 use Rattle.text.specs.Lines.{digit, hex, decimal, shownOctets, line}
 
 -- 39 is what lies between the characters after `9` and `a`; 255 times 1 has all of its bits, 255 times 0 none
@@ -36,18 +36,10 @@ masked d x m h k = omega (arith, and-le-r x m)
 
 -- one octet stored, or two, where the text is just that
 pub stored : (s t : List ℕ) (i a : ℕ) → i + 1 ≤ length s → t ≡ a ∷ [] → (i + 1 ≡ i + length t) × (set s i a ≡ splice s i t)
-unfolding splice
-stored s t i a h e = rw e (refl, rw add-one (set-split s i a (omega arith)))
+stored s t i a h e = rw e (refl, one-store s i a h)
 
 pub stored-two : (s t : List ℕ) (i a b : ℕ) → i + 2 ≤ length s → t ≡ a ∷ b ∷ [] → (i + 2 ≡ i + length t) × (set (set s i a) (i + 1) b ≡ splice s i t)
 stored-two s t i a b h e = rw e (refl, two-stores s i a b h)
-
--- nothing written changes nothing
-pub splice-none : (s : List ℕ) (i : ℕ) → splice s i [] ≡ s
-unfolding splice
-splice-none s i =
-    let e : i + 0 ≡ i = omega arith in
-    rw e (take-append-drop i s)
 
 -- ---- octets as digits
 
@@ -67,7 +59,7 @@ hex-turn out src to i a b h k e f =
 
 pub hex-end : (out src : List ℕ) (to i : ℕ) → length src ≤ i → splice out to (hex (drop i src)) ≡ out
 unfolding hex
-hex-end out src to i h = rw (drop-of-length-le src h) (splice-none out to)
+hex-end out src to i h = rw (drop-of-length-le src h) (splice-nil out to)
 
 -- ---- a number under 100
 

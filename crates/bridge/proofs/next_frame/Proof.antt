@@ -1,7 +1,7 @@
 -- `bridge::next_frame` meets its contract.
 use native.Mathlib.Omega.{arith}
-use Rattle.bridge.proofs.Held.{needed-length, needed-all}
 use borrow.Author.Needs.{needs}
+use Rattle.bridge.proofs.Held.{needed-length, needed-all}
 use Rattle.bridge.proofs.next_frame.Statement.{statement}
 use Rattle.bridge.proofs.next_frame.Tie as tie
 

@@ -1,11 +1,11 @@
 -- `bridge::run` meets its contract.
-use Prim.Native.Nat.{_+_, _-_, _<_}
+use Prim.Native.Nat.{_+_, _<_}
+use native.Mathlib.Omega.{arith}
 use mathlib.Core.Path.{_≡_, sym}
 use lib.ListN.{length, take}
 use lib.Seq.{length-take-le}
-use Rattle.bridge.proofs.Held.{rest}
 use borrow.Author.Needs.{needs}
-use native.Mathlib.Omega.{arith}
+use Rattle.bridge.proofs.Held.{rest}
 use Rattle.bridge.proofs.run.Statement.{statement}
 use Rattle.bridge.proofs.run.Tie as tie
 

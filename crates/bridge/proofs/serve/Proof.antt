@@ -1,11 +1,11 @@
 -- `bridge::serve` meets its contract.
-use Rattle.bridge.proofs.Held.{whole, more}
 use Prim.Native.Nat.{_-_, _≤_, _<_}
+use native.Mathlib.Omega.{arith}
 use mathlib.Core.Path.{_≡_, sym, _∙_}
 use lib.ListN.{length}
 use lib.Seq.{length-take-le}
 use borrow.Author.Needs.{needs}
-use native.Mathlib.Omega.{arith}
+use Rattle.bridge.proofs.Held.{whole, more}
 use Rattle.bridge.proofs.serve.Statement.{statement}
 use Rattle.bridge.proofs.serve.Tie as tie
 

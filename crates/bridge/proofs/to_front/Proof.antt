@@ -1,11 +1,11 @@
 -- `bridge::to_front` meets its contract.
 use Prim.Native.Nat.{_≤_, _-_}
+use native.Mathlib.Omega.{arith}
 use mathlib.Core.Path.{_≡_, refl}
 use lib.ListN.{length, take, drop, length-set}
+use borrow.Author.Needs.{needs}
 use Rattle.meaning.specs.Octets.{part}
 use Rattle.bridge.proofs.Held.{move-turn}
-use borrow.Author.Needs.{needs}
-use native.Mathlib.Omega.{arith}
 use Rattle.bridge.proofs.to_front.Statement.{statement}
 use Rattle.bridge.proofs.to_front.Tie as tie
 

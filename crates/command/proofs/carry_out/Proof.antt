@@ -1,24 +1,18 @@
-use Prim.Native.Nat.{ℕ, _+_, _-_, _≤_, _<_}
-use native.Mathlib.Omega.{arith}
+-- `command::carry_out` meets its contract.
+use Prim.Native.Nat.{ℕ, _+_, _≤_, _<_}
 use mathlib.Core.Path.{_≡_, refl, sym, ap, _∙_}
 use mathlib.Core.List.{List}
 use lib.ListN.{length}
+use borrow.Author.Needs.{needs}
 use Rattle.meaning.specs.Octets.{part}
 use Rattle.meaning.specs.Checks.{firstFailed}
-use borrow.Author.Needs.{needs}
 use Rattle.meaning.specs.Step.{setChecks, setMemory, step, answer}
-use Rattle.operation.specs.Handing.{opOf, Inside}
-use Rattle.command.specs.Answers.{answerOf, Told}
+use Rattle.operation.specs.Handing.{opOf, nameOf, fromOf, sizeOf}
 use Rattle.octets.proofs.Splices.{part-is}
+use Rattle.command.specs.Answers.{answerOf}
 use Rattle.command.proofs.Sets.{long-of, answer-update, answer-cause}
 use Rattle.command.proofs.carry_out.Statement.{statement}
 use Rattle.command.proofs.carry_out.Tie as tie
-use Rattle.command.proofs.carry_out.Reads as reads
-use Rattle.command.proofs.carry_out.Lts as lts
-use Rattle.command.proofs.read.Reads as read-reads
-use Rattle.command.proofs.set.Reads as set-reads
-use Rattle.command.proofs.subscribe.Reads as subscribe-reads
-use Rattle.command.proofs.unsubscribe.Reads as unsubscribe-reads
 
 -- the value of a set lies in the list
 module _ (c : tie.After-op2) where
@@ -37,122 +31,96 @@ module _ (c : tie.After-op2) where
   within : from + size ≤ length list
   within = told .1
 
--- src/lib.rt:127:29
 enum-told : tie.Need-enum-told
 enum-told c = search needs
 
--- src/lib.rt:128:18
 enum-known-op : tie.Need-enum-known-op
 enum-known-op c = search needs
 
--- src/lib.rt:128:27
 read-requires : tie.Need-read-requires
-read-requires c κs =
-    let s = c .before .before .before .before .before .before in
-    (long-of _ (s .pre .0), rw (c .before .before .op .given .1) at (s .pre .1))
+read-requires c κs = long-of _ (c .before .before .before .before .before .before .pre .0)
 
--- src/lib.rt:129:17
 enum-known-op-2 : tie.Need-enum-known-op-2
 enum-known-op-2 c = search needs
 
--- src/lib.rt:130:50
 add-set : tie.Need-add-set
 add-set c =
     let h = within (c .before .before) in
     search needs
 
--- src/lib.rt:130:38
 sub-set : tie.Need-sub-set
 sub-set c = search needs
 
--- src/lib.rt:130:38
 part-set-start : tie.Need-part-set-start
 part-set-start c = search needs
 
--- src/lib.rt:130:38
 part-set-end : tie.Need-part-set-end
 part-set-end c =
     let h = within (c .before .before) in
     search needs
 
--- src/lib.rt:130:17
 set-requires : tie.Need-set-requires
 set-requires c κs = search needs
 
--- src/lib.rt:137:23
 enum-known-op-3 : tie.Need-enum-known-op-3
 enum-known-op-3 c = search needs
 
--- src/lib.rt:138:13
 subscribe-requires : tie.Need-subscribe-requires
 subscribe-requires c κs = long-of _ (c .before .before .before .before .before .before .pre .0)
 
--- src/lib.rt:141:25
 enum-known-op-4 : tie.Need-enum-known-op-4
 enum-known-op-4 c = search needs
 
--- src/lib.rt:142:13
 unsubscribe-requires : tie.Need-unsubscribe-requires
 unsubscribe-requires c κs = long-of _ (c .before .before .before .before .before .before .pre .0)
 
--- src/lib.rt:121:1
 returns : tie.Need-returns
 unfolding opOf step answer answerOf
 returns c = rw (c .enum-told .given .1) (refl, (refl, tt))
 
--- src/lib.rt:121:1
 same-length : tie.Need-same-length
 same-length c = search needs
 
--- src/lib.rt:121:1
 returns-2 : tie.Need-returns-2
-unfolding opOf step answer
-returns-2 c = rw (c .before .before .before .op .given .1) (refl, c .read .ensures (c .before .before .before .before .before .before .before .args .list .now))
+unfolding opOf nameOf step answer
+returns-2 c = rw (c .before .before .before .op .given .1) (refl, c .read .ensures _ _ refl)
 
--- src/lib.rt:121:1
 same-length-2 : tie.Need-same-length-2
 same-length-2 c = search needs
 
--- src/lib.rt:121:1
 returns-3 : tie.Need-returns-3
-unfolding opOf step answer answerOf
+unfolding opOf nameOf fromOf sizeOf step answer answerOf
 returns-3 c =
     let p = c .before .before .before .set in
     let k = c .before .before .before .before .before .before .before in
     let m = c .before .before .before .before .before .before .before .before .before .before .before .args .m .now in
     let n = k .op2 .given .0 .0 in
     let e : firstFailed (setChecks m n (part (list k) (from k) (size k))) ≡ 0 = rw (part-is (list k) (from k) (size k)) at (sym (p .ensures .0) ∙ c .if1 .taken) in
-    rw (k .op2 .given .1) (p .ensures .1 ∙ ap (setMemory m n) (part-is (list k) (from k) (size k)), (sym (answer-update m n _ e), told k))
+    rw (k .op2 .given .1) (p .ensures .1 ∙ ap (setMemory m n) (part-is (list k) (from k) (size k)), (sym (answer-update m n _ e), tt))
 
--- src/lib.rt:121:1
 same-length-3 : tie.Need-same-length-3
 same-length-3 c = search needs
 
--- src/lib.rt:121:1
 returns-4 : tie.Need-returns-4
-unfolding opOf step answer answerOf
+unfolding opOf nameOf step answer answerOf
 returns-4 c =
     let p = c .before .before .before .set in
     let k = c .before .before .before .before .before .before .before in
     let m = c .before .before .before .before .before .before .before .before .before .before .before .args .m .now in
     let n = k .op2 .given .0 .0 in
     let e : p .result ≡ firstFailed (setChecks m n (part (list k) (from k) (size k))) = rw (part-is (list k) (from k) (size k)) at (p .ensures .0) in
-    rw (k .op2 .given .1) (p .ensures .1 ∙ ap (setMemory m n) (part-is (list k) (from k) (size k)), (sym (answer-cause m n _ _ e (c .if1 .left)), told k .0))
+    rw (k .op2 .given .1) (p .ensures .1 ∙ ap (setMemory m n) (part-is (list k) (from k) (size k)), (sym (answer-cause m n _ _ e (c .if1 .left)), tt))
 
--- src/lib.rt:121:1
 same-length-4 : tie.Need-same-length-4
 same-length-4 c = search needs
 
--- src/lib.rt:121:1
 returns-5 : tie.Need-returns-5
 unfolding opOf step answer answerOf
 returns-5 c = rw (c .before .before .before .before .before .op3 .given .1) (c .before .before .subscribe .ensures, (refl, tt))
 
--- src/lib.rt:121:1
 same-length-5 : tie.Need-same-length-5
 same-length-5 c = search needs
 
--- src/lib.rt:121:1
 returns-6 : tie.Need-returns-6
 unfolding opOf step answer answerOf
 returns-6 c = rw (c .before .before .before .before .before .op4 .given .1) (c .before .before .unsubscribe .ensures, (refl, tt))

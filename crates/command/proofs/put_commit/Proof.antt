@@ -1,3 +1,4 @@
+-- `command::put_commit` meets its contract.
 use Prim.Native.Nat.{ℕ, _+_, _-_, _≤_}
 use native.Mathlib.Omega.{arith}
 use native.Mathlib.Nat.{sub-zero}
@@ -16,11 +17,6 @@ use Rattle.schedule.specs.Rules.{agrees}
 use Rattle.command.proofs.Sets.{long-of, FourLengths, four-lengths, block-length, commit-unset, commit-is, block-found, block-in-room, fills, one-length}
 use Rattle.command.proofs.put_commit.Statement.{statement}
 use Rattle.command.proofs.put_commit.Tie as tie
-use Rattle.command.proofs.put_commit.Reads as reads
-use Rattle.command.proofs.put_commit.Lts as lts
-use Rattle.memory.proofs.four_present.Reads as four-present-reads
-use Rattle.memory.proofs.store.Reads as store-reads
-use Rattle.schedule.proofs.commit.Reads as commit-reads
 
 -- what is known where the four values have been found
 module _ (c : tie.After-joined) where
@@ -75,22 +71,18 @@ module _ (c : tie.After-commit) where
   stands : take (22 + length (c .before .before .before .body .result .now) - 0) room ≡ block (copy (c .before))
   stands = rw (sub-zero, size, c .commit .ensures .1, found) (splice-front _ (block (copy (c .before))))
 
--- src/lib.rt:46:9
 four-present-requires : tie.Need-four-present-requires
 four-present-requires c κs = long-of _ (c .before .before .before .pre)
 
--- src/lib.rt:47:9
 same-length : tie.Need-same-length
 same-length c = search needs
 
--- src/lib.rt:47:9
 returns : tie.Need-returns
 returns c =
     let s = c .before .before .before .before .before in
     let f : fourPresent (s .args .m .now) ≡ false = sym (c .before .four-present .ensures) ∙ denied _ (c .if1 .taken) in
     rw (commit-unset (s .args .m .now) (s .args .v .now) f) (refl, refl)
 
--- src/lib.rt:49:9
 room-requires : tie.Need-room-requires
 room-requires c κs = long-of _ (c .before .before .before .before .before .before .pre)
 
@@ -106,35 +98,28 @@ room-requires-3 c κs = long-of _ (c .before .before .before .before .before .be
 add-n : tie.Need-add-n
 add-n c = search needs
 
--- src/lib.rt:55:55
 slice-aggregate-commit : tie.Need-slice-aggregate-commit
 slice-aggregate-commit c = search needs
 
--- src/lib.rt:55:9
 commit-requires : tie.Need-commit-requires
 commit-requires c κs =
     let l = lengths c in
     (ap length (base-is c) ∙ l .base, ap length (count-is c) ∙ l .count, ap length (ratio-is c) ∙ l .ratio, omega (arith, ap length (list-is c), l .list))
 
--- src/lib.rt:56:9
 same-length-2 : tie.Need-same-length-2
 same-length-2 c = search needs
 
--- src/lib.rt:56:9
 returns-2 : tie.Need-returns-2
 returns-2 c =
     let k = c .before .before in
     rw (sym (tested k) ∙ denied _ (c .if2 .taken)) (refl, refl)
 
--- src/lib.rt:58:37
 sub-store : tie.Need-sub-store
 sub-store c = search needs
 
--- src/lib.rt:58:37
 part-store-start : tie.Need-part-store-start
 part-store-start c = search needs
 
--- src/lib.rt:58:37
 part-store-end : tie.Need-part-store-end
 part-store-end c =
     let k = c .before .before .before .before in
@@ -144,18 +129,15 @@ part-store-end c =
     let w : length (room k) ≡ 470 = k .commit .kept .1 .1 .1 .1 .1 .0 in
     search needs
 
--- src/lib.rt:58:5
 store-requires : tie.Need-store-requires
 store-requires c κs =
     let k = c .before .before .before .before .before in
     let n : length (block (copy (k .before))) ≤ 470 = omega (arith, size k, lengths (k .before) .list, ap length (k .before .before .before .body .ensures)) in
     (long-of _ (k .before .before .before .before .before .before .before .before .before .before .before .before .pre), omega arith, rw (stands k) (block-in-room (block (copy (k .before))) n))
 
--- src/lib.rt:42:1
 same-length-3 : tie.Need-same-length-3
 same-length-3 c = search needs
 
--- src/lib.rt:42:1
 returns-3 : tie.Need-returns-3
 returns-3 c =
     let k = c .before .before .before .before .before .before .before .before in

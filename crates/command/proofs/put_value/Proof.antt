@@ -1,42 +1,32 @@
+-- `command::put_value` meets its contract.
+use mathlib.Core.Path.{_≡_, refl, sym, _∙_}
+use mathlib.Core.Bool.{true, false}
 use borrow.Author.Needs.{needs}
-use mathlib.Core.Path.{_≡_, refl, sym, ap, _∙_}
-use mathlib.Core.Bool.{Bool, true, false, cond}
-use mathlib.Core.List.{List}
 use Rattle.meaning.specs.Table.{rowAt}
 use Rattle.meaning.specs.Block.{permits}
 use Rattle.meaning.specs.Memory.{store}
-use Rattle.meaning.specs.Step.{permitted, stored}
+use Rattle.meaning.specs.Step.{permitted}
 use Rattle.meaning.proofs.Tests.{denied, affirmed}
 use Rattle.meaning.proofs.Kept.{permits-most}
 use Rattle.command.proofs.Sets.{long-of, permitted-commit, permitted-row}
 use Rattle.command.proofs.put_value.Statement.{statement}
 use Rattle.command.proofs.put_value.Tie as tie
-use Rattle.command.proofs.put_value.Reads as reads
-use Rattle.command.proofs.put_value.Lts as lts
-use Rattle.command.proofs.put_commit.Reads as put-commit-reads
-use Rattle.memory.proofs.store.Reads as store-reads
-use Rattle.table.proofs.permits.Reads as permits-reads
 
--- src/lib.rt:68:9
 put-commit-requires : tie.Need-put-commit-requires
 put-commit-requires c κs = search needs
 
--- src/lib.rt:68:9
 same-length : tie.Need-same-length
 same-length c = search needs
 
--- src/lib.rt:68:9
 returns : tie.Need-returns
 returns c =
     let a = c .before .before .before .before .before .before .before .args in
     let e = permitted-commit (a .m .now) (a .v .now) (a .k) (c .before .before .before .before .if1 .taken) in
     rw (e .0, e .1) (c .before .before .put-commit .ensures)
 
--- src/lib.rt:70:9
 permits-requires : tie.Need-permits-requires
 permits-requires c κs = search needs
 
--- src/lib.rt:71:9
 returns-2 : tie.Need-returns-2
 returns-2 c =
     let a = c .before .before .before .before .before .args in
@@ -44,18 +34,15 @@ returns-2 c =
     let p : permitted (a .m .now) (a .k) (a .v .now) ≡ false = e .0 ∙ sym (c .before .permits .ensures) ∙ denied _ (c .if2 .taken) in
     rw p (refl, refl)
 
--- src/lib.rt:73:5
 store-requires : tie.Need-store-requires
 store-requires c κs =
     let s = c .before .before .before .before .before .before in
     let p : permits (rowAt (s .args .k)) (s .args .v .now) ≡ true = sym (c .before .before .permits .ensures) ∙ affirmed _ (c .before .if2 .left) in
     (long-of _ (s .pre .0), s .pre .1, permits-most _ _ p)
 
--- src/lib.rt:63:1
 same-length-2 : tie.Need-same-length-2
 same-length-2 c = search needs
 
--- src/lib.rt:63:1
 returns-3 : tie.Need-returns-3
 returns-3 c =
     let a = c .before .before .before .before .before .before .before .before .before .args in

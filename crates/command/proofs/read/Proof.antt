@@ -1,10 +1,10 @@
-use borrow.Author.Needs.{needs}
-use Prim.Native.Nat.{ℕ, _<_}
-use mathlib.Core.Path.{_≡_, refl, sym, ap, _∙_}
+-- `command::read` meets its contract.
+use Prim.Native.Nat.{ℕ}
 use native.Mathlib.Omega.{arith}
+use mathlib.Core.Path.{_≡_, sym, ap, _∙_}
 use mathlib.Core.Bool.{true, false}
-use mathlib.Core.List.{List}
-use Rattle.meaning.specs.Table.{place, entryCount}
+use borrow.Author.Needs.{needs}
+use Rattle.meaning.specs.Table.{place}
 use Rattle.meaning.specs.Memory.{present}
 use Rattle.meaning.specs.Step.{value, shown}
 use Rattle.meaning.proofs.Tests.{denied, affirmed}
@@ -12,27 +12,19 @@ use Rattle.command.specs.Answers.{answerOf}
 use Rattle.command.proofs.Sets.{read-unlisted, read-absent, read-value}
 use Rattle.command.proofs.read.Statement.{statement}
 use Rattle.command.proofs.read.Tie as tie
-use Rattle.command.proofs.read.Reads as reads
-use Rattle.command.proofs.read.Lts as lts
-use Rattle.memory.proofs.present.Reads as present-reads
-use Rattle.table.proofs.place_of.Reads as place-of-reads
 
--- src/lib.rt:31:9
 place-of-requires : tie.Need-place-of-requires
 place-of-requires c κs = search needs
 
--- src/lib.rt:33:9
 returns : tie.Need-returns
 unfolding answerOf
 returns c =
     let s = c .before .before .before in
-    λ _. (sym (read-unlisted (s .args .m .now) (s .args .name) (omega (arith, c .before .place-of .ensures, c .if1 .taken))), s .pre .1)
+    λ _ _ e. (rw e (sym (read-unlisted (s .args .m .now) (s .args .name) (omega (arith, c .before .place-of .ensures, c .if1 .taken)))), tt)
 
--- src/lib.rt:35:9
 present-requires : tie.Need-present-requires
 present-requires c κs = search needs
 
--- src/lib.rt:36:9
 returns-2 : tie.Need-returns-2
 unfolding answerOf
 returns-2 c =
@@ -40,9 +32,8 @@ returns-2 c =
     let q = c .before .before .before .place-of in
     let h = rw (q .ensures) at (c .before .before .if1 .left) in
     let p : present (s .args .m .now) (place (s .args .name)) ≡ false = rw (q .ensures) at (sym (c .before .present .ensures) ∙ denied _ (c .if2 .taken)) in
-    λ _. (sym (read-absent (s .args .m .now) (s .args .name) h p), s .pre .1)
+    λ _ _ e. (rw e (sym (read-absent (s .args .m .now) (s .args .name) h p)), tt)
 
--- src/lib.rt:27:1
 returns-3 : tie.Need-returns-3
 unfolding answerOf
 returns-3 c =
@@ -50,7 +41,7 @@ returns-3 c =
     let q = c .before .before .before .place-of in
     let h = rw (q .ensures) at (c .before .before .if1 .left) in
     let p : present (s .args .m .now) (place (s .args .name)) ≡ true = rw (q .ensures) at (sym (c .before .present .ensures) ∙ affirmed _ (c .if2 .left)) in
-    λ _. (ap (λ (k : ℕ). value (s .args .name) (shown (s .args .m .now) k)) (q .ensures) ∙ sym (read-value (s .args .m .now) (s .args .name) h p), (s .pre .1, c .before .before .if1 .left))
+    λ _ _ e. (rw e (ap (λ (k : ℕ). value (s .args .name) (shown (s .args .m .now) k)) (q .ensures) ∙ sym (read-value (s .args .m .now) (s .args .name) h p)), c .before .before .if1 .left)
 
 pub read-spec : {M : Type 1} → statement M
 read-spec = tie.close (tie.spec place-of-requires returns present-requires returns-2 returns-3)

@@ -1,11 +1,9 @@
-use Prim.Native.Nat.{ℕ, _+_, _≤_, _<_}
+-- `endpoint::carry_out` meets its contract.
+use Prim.Native.Nat.{_≤_}
 use native.Mathlib.Omega.{arith}
 use mathlib.Core.Path.{_≡_, refl, sym, ap, _∙_}
-use mathlib.Core.Bool.{true, false}
-use mathlib.Core.List.{List, [], _∷_, _++_}
 use lib.ListN.{length}
-use Rattle.endpoint.specs.Outcomes.{numberOf, lengthOf, Gives}
-use Rattle.endpoint.specs.declared.Outcome.the-variants.{NoRoom}
+use borrow.Author.Needs.{needs}
 use Rattle.meaning.specs.Operation.{parse, orNone}
 use Rattle.meaning.specs.Step.{after}
 use Rattle.meaning.specs.Reply.{complete}
@@ -14,19 +12,13 @@ use Rattle.meaning.proofs.Tests.{denied, affirmed}
 use Rattle.meaning.proofs.Kept.{after-sound}
 use Rattle.octets.proofs.Splices.{copied-whole}
 use Rattle.command.proofs.Sets.{long-of}
-use Rattle.tally.specs.Tallies.{tallyOf, replyLength, tallyFits}
+use Rattle.tally.specs.Tallies.{replyLength, tallyFits}
 use Rattle.tally.proofs.Lengths.{reply-length, tally-fits}
+use Rattle.endpoint.specs.Outcomes.{numberOf, lengthOf}
+use Rattle.endpoint.specs.declared.Outcome.the-variants.{NoRoom}
 use Rattle.endpoint.proofs.Exits.{gives-told, gives-done, command-fits, command-7}
-use borrow.Author.Needs.{needs}
 use Rattle.endpoint.proofs.carry_out.Statement.{statement}
 use Rattle.endpoint.proofs.carry_out.Tie as tie
-use Rattle.endpoint.proofs.carry_out.Reads as reads
-use Rattle.endpoint.proofs.carry_out.Lts as lts
-use Rattle.bytes.proofs.copy.Reads as copy-reads
-use Rattle.reply.proofs.write.Reads as write-reads
-use Rattle.tally.proofs.fits.Reads as fits-reads
-use Rattle.tally.proofs.reply_length.Reads as reply-length-reads
-use Rattle.tally.proofs.take.Reads as take-reads
 
 -- the tally tells whether the reply fits
 tested : (c : tie.After-fits2) → fits (length (c .before .before .before .before .before .before .before .before .before .args .room .now)) (carriedOut (c .before .before .before .before .before .before .before .before .before .args .memory .now) (orNone (parse (c .before .before .before .before .before .before .before .before .before .args .list .now)))) ≡ c .fits2 .result
@@ -35,38 +27,30 @@ tested c =
     let n = length (a .room .now) in
     sym (c .fits2 .ensures ∙ ap (tallyFits n) (c .before .before .before .take .ensures .0) ∙ tally-fits n (a .memory .now) (orNone (parse (a .list .now))))
 
--- src/lib.rt:89:39
 slice-aggregate-take : tie.Need-slice-aggregate-take
 slice-aggregate-take c = search needs
 
--- src/lib.rt:89:9
 take-requires : tie.Need-take-requires
 take-requires c κs = search needs
 
--- src/lib.rt:90:9
 reply-length-requires : tie.Need-reply-length-requires
 reply-length-requires c κs = search needs
 
--- src/lib.rt:91:9
 fits-requires : tie.Need-fits-requires
 fits-requires c κs = search needs
 
--- src/lib.rt:92:9
 same-length : tie.Need-same-length
 same-length c = search needs
 
--- src/lib.rt:92:9
 returns : tie.Need-returns
 unfolding numberOf lengthOf
 returns c =
     let a = c .before .before .before .before .before .before .before .before .before .before .args in
     gives-told (a .memory .now) (a .room .now) 7 NoRoom (command-7 (a .memory .now) (a .list .now) (a .room .now) (tested (c .before) ∙ denied _ (c .if1 .taken))) refl refl
 
--- src/lib.rt:94:35
 slice-aggregate-write : tie.Need-slice-aggregate-write
 slice-aggregate-write c = search needs
 
--- src/lib.rt:94:5
 write-requires : tie.Need-write-requires
 write-requires c κs =
     let s = c .before .before .before .before .before .before .before .before .before .before .before .before .before in
@@ -74,26 +58,21 @@ write-requires c κs =
     let t = k .before .before .before .take in
     ((s .pre .0, s .pre .1, s .pre .2, t .ensures .1 .1), (t .ensures .0, t .ensures .1 .0, sym (k .fits2 .ensures) ∙ affirmed _ (c .before .before .before .if1 .left)))
 
--- src/lib.rt:95:17
 slice-aggregate-copy : tie.Need-slice-aggregate-copy
 slice-aggregate-copy c = search needs
 
--- src/lib.rt:95:5
 copy-requires : tie.Need-copy-requires
 copy-requires c κs =
     let s = c .before .before .before .before .before .before .before .before .before .before .before .before .before .before .before .before .before .before .before in
     let w = c .before .before .before .before .before .write .ensures .0 in
     omega (arith, ap length w, long-of _ (after-sound (s .args .memory .now) (orNone (parse (s .args .list .now))) (s .pre .0)), long-of _ (s .pre .0))
 
--- src/lib.rt:84:1
 same-length-2 : tie.Need-same-length-2
 same-length-2 c = search needs
 
--- src/lib.rt:84:1
 same-length-3 : tie.Need-same-length-3
 same-length-3 c = search needs
 
--- src/lib.rt:84:1
 returns-2 : tie.Need-returns-2
 returns-2 c =
     let s = c .before .before .before .before .before .before .before .before .before .before .before .before .before .before .before .before .before .before .before .before .before .before in

@@ -1,25 +1,16 @@
-use Prim.Native.Nat.{ℕ, _+_, _≤_, _<_}
+-- `endpoint::message` meets its contract.
 use native.Mathlib.Omega.{arith}
-use mathlib.Core.Path.{_≡_, refl, sym, ap, _∙_}
-use mathlib.Core.Bool.{true, false}
-use mathlib.Core.List.{List, [], _∷_, _++_}
-use lib.ListN.{length}
-use mathlib.Core.Logic.{_≢_}
-use Rattle.endpoint.specs.Outcomes.{numberOf, lengthOf, Gives}
-use Rattle.endpoint.specs.declared.Outcome.the-variants.{MemoryUnsound, MessageEmpty, MessageTooLong, TypeUnknown}
-use Rattle.meaning.specs.Octets.{octet}
+use mathlib.Core.Path.{_≡_, refl, sym, _∙_}
+use mathlib.Core.Bool.{true}
+use borrow.Author.Needs.{needs}
 use Rattle.meaning.specs.Memory.{sound}
 use Rattle.meaning.proofs.Tests.{denied, affirmed}
 use Rattle.meaning.proofs.Numbers.{Taken, message-1, message-2, message-3, message-4}
+use Rattle.endpoint.specs.Outcomes.{numberOf, lengthOf}
+use Rattle.endpoint.specs.declared.Outcome.the-variants.{MemoryUnsound, MessageEmpty, MessageTooLong, TypeUnknown}
 use Rattle.endpoint.proofs.Exits.{gives-told, message-acknowledgement}
-use borrow.Author.Needs.{needs}
 use Rattle.endpoint.proofs.message.Statement.{statement}
 use Rattle.endpoint.proofs.message.Tie as tie
-use Rattle.endpoint.proofs.message.Reads as reads
-use Rattle.endpoint.proofs.message.Lts as lts
-use Rattle.endpoint.proofs.acknowledge.Reads as acknowledge-reads
-use Rattle.endpoint.proofs.take_command.Reads as take-command-reads
-use Rattle.soundness.proofs.sound.Reads as sound-reads
 
 tested : (c : tie.Else1) → sound (c .before .before .before .before .before .before .args .memory .now) ≡ true
 tested c = sym (c .before .sound .ensures) ∙ affirmed _ (c .if1 .left)
@@ -27,90 +18,72 @@ tested c = sym (c .before .sound .ensures) ∙ affirmed _ (c .if1 .left)
 taken : (c : tie.Else3) → Taken (c .before .before .before .before .before .before .before .before .args .memory .now) (c .before .before .before .before .before .before .before .before .args .sent .now)
 taken c = record { isSound = tested (c .before .before); nonzero = c .before .if2 .left; short = c .if3 .left }
 
--- src/lib.rt:125:9
 sound-requires : tie.Need-sound-requires
 sound-requires c κs = search needs
 
--- src/lib.rt:126:9
 same-length : tie.Need-same-length
 same-length c = search needs
 
--- src/lib.rt:126:9
 returns : tie.Need-returns
 unfolding numberOf lengthOf
 returns c =
     let a = c .before .before .before .before .before .before .args in
     gives-told (a .memory .now) (a .room .now) 1 MemoryUnsound (message-1 (a .memory .now) (a .sent .now) (a .room .now) (sym (c .before .sound .ensures) ∙ denied _ (c .if1 .taken))) refl refl
 
--- src/lib.rt:129:9
 same-length-2 : tie.Need-same-length-2
 same-length-2 c = search needs
 
--- src/lib.rt:129:9
 returns-2 : tie.Need-returns-2
 unfolding numberOf lengthOf
 returns-2 c =
     let a = c .before .before .before .before .before .before .before .args in
     gives-told (a .memory .now) (a .room .now) 2 MessageEmpty (message-2 (a .memory .now) (a .sent .now) (a .room .now) (tested (c .before)) (omega (arith, c .if2 .taken))) refl refl
 
--- src/lib.rt:132:9
 same-length-3 : tie.Need-same-length-3
 same-length-3 c = search needs
 
--- src/lib.rt:132:9
 returns-3 : tie.Need-returns-3
 unfolding numberOf lengthOf
 returns-3 c =
     let a = c .before .before .before .before .before .before .before .before .args in
     gives-told (a .memory .now) (a .room .now) 3 MessageTooLong (message-3 (a .memory .now) (a .sent .now) (a .room .now) (tested (c .before .before)) (c .if3 .taken)) refl refl
 
--- src/lib.rt:134:11
 shared-slice-read-match : tie.Need-shared-slice-read-match
 shared-slice-read-match c = search needs
 
--- src/lib.rt:135:14
 take-command-requires : tie.Need-take-command-requires
 take-command-requires c κs =
     let k = c .before .before .before .before in
     let t = taken k in
     (t .isSound, t .nonzero, t .short, c .before .before .match .keys1)
 
--- src/lib.rt:136:14
 acknowledge-requires : tie.Need-acknowledge-requires
 acknowledge-requires c κs = taken (c .before .before .before .before) .isSound
 
--- src/lib.rt:122:1
 same-length-4 : tie.Need-same-length-4
 same-length-4 c = search needs
 
--- src/lib.rt:122:1
 same-length-5 : tie.Need-same-length-5
 same-length-5 c = search needs
 
--- src/lib.rt:122:1
 returns-4 : tie.Need-returns-4
 returns-4 c = search needs
 
--- src/lib.rt:122:1
 same-length-6 : tie.Need-same-length-6
 same-length-6 c = search needs
 
--- src/lib.rt:122:1
 same-length-7 : tie.Need-same-length-7
 same-length-7 c = search needs
 
--- src/lib.rt:122:1
 returns-5 : tie.Need-returns-5
 returns-5 c =
     let k = c .before .before .before .before .before .before .before .before .before in
     let a = k .before .before .before .before .before .before .before .before .args in
     rw (message-acknowledgement (a .memory .now) (a .sent .now) (a .room .now) (taken k) (c .before .before .before .before .before .before .before .match .keys2)) (c .before .before .before .before .acknowledge .ensures)
 
--- src/lib.rt:122:1
 same-length-8 : tie.Need-same-length-8
 same-length-8 c = search needs
 
--- src/lib.rt:122:1
 returns-6 : tie.Need-returns-6
 unfolding numberOf lengthOf
 returns-6 c =

@@ -1,6 +1,6 @@
 -- `endpoint::number` meets its contract.
-use Rattle.endpoint.specs.Outcomes.{numberOf}
 use borrow.Author.Needs.{needs}
+use Rattle.endpoint.specs.Outcomes.{numberOf}
 use Rattle.endpoint.proofs.number.Statement.{statement}
 use Rattle.endpoint.proofs.number.Tie as tie
 

@@ -1,27 +1,21 @@
-use Prim.Native.Nat.{ℕ, _+_, _-_, _*_, _≤_, _<_}
+-- `endpoint::take_command` meets its contract.
+use Prim.Native.Nat.{ℕ, _+_, _-_, _*_, _<_}
 use native.Mathlib.Omega.{arith}
 use mathlib.Core.Path.{_≡_, refl, sym, ap, _∙_}
-use mathlib.Core.Bool.{true, false}
-use mathlib.Core.List.{List, [], _∷_, _++_}
-use lib.ListN.{length, take, drop, length-take}
+use mathlib.Core.List.{List}
 use mathlib.Core.Logic.{inl, inr}
-use Rattle.endpoint.specs.Outcomes.{numberOf, lengthOf, Gives}
-use Rattle.endpoint.specs.declared.Outcome.the-variants.{LengthWrong, OperationMalformed}
+use lib.ListN.{length, take, drop, length-take}
+use borrow.Author.Needs.{needs}
 use Rattle.meaning.specs.Octets.{octet, at16}
 use Rattle.meaning.specs.Operation.{parse, isSome}
-use Rattle.meaning.specs.Calls.{operations, message}
+use Rattle.meaning.specs.Calls.{operations}
 use Rattle.meaning.proofs.Tests.{denied, affirmed}
 use Rattle.meaning.proofs.Numbers.{Taken, Measured, message-5, message-6}
-use Rattle.endpoint.specs.Outcomes.{command}
+use Rattle.endpoint.specs.Outcomes.{numberOf, lengthOf}
+use Rattle.endpoint.specs.declared.Outcome.the-variants.{LengthWrong, OperationMalformed}
 use Rattle.endpoint.proofs.Exits.{gives-told, list-is, not-whole, message-command}
-use borrow.Author.Needs.{needs}
 use Rattle.endpoint.proofs.take_command.Statement.{statement}
 use Rattle.endpoint.proofs.take_command.Tie as tie
-use Rattle.endpoint.proofs.take_command.Reads as reads
-use Rattle.endpoint.proofs.take_command.Lts as lts
-use Rattle.endpoint.proofs.carry_out.Reads as carry-out-reads
-use Rattle.octets.proofs.get16.Reads as get16-reads
-use Rattle.operation.proofs.whole.Reads as whole-reads
 
 taken : (c : tie.Start) → Taken (c .args .memory .now) (c .args .sent .now)
 taken c = record { isSound = c .pre .0; nonzero = c .pre .1; short = c .pre .2 }
@@ -46,7 +40,6 @@ lent c = list-is (c .before .before .before .before .before .before .before .bef
 found : (c : tie.After-whole) → isSome (parse (operations (c .before .before .before .before .before .before .before .before .before .args .sent .now))) ≡ c .whole .result
 found c = sym (c .whole .ensures ∙ ap (λ (s : List ℕ). isSome (parse s)) (lent (c .before)))
 
--- src/lib.rt:105:9
 returns : tie.Need-returns
 unfolding numberOf lengthOf
 returns c =
@@ -54,11 +47,9 @@ returns c =
     let a = s .args in
     gives-told (a .memory .now) (a .room .now) 5 LengthWrong (message-5 (a .memory .now) (a .sent .now) (a .room .now) (taken s) (s .pre .3) (inl (c .if1 .taken))) refl refl
 
--- src/lib.rt:107:9
 get16-requires : tie.Need-get16-requires
 get16-requires c κs = search needs
 
--- src/lib.rt:109:9
 returns-2 : tie.Need-returns-2
 unfolding numberOf lengthOf at16
 returns-2 c =
@@ -67,11 +58,9 @@ returns-2 c =
     gives-told (a .memory .now) (a .room .now) 5 LengthWrong
     (message-5 (a .memory .now) (a .sent .now) (a .room .now) (taken s) (s .pre .3) (inr (inl (sym (c .before .get16 .ensures .0) ∙ c .if2 .taken)))) refl refl
 
--- src/lib.rt:111:21
 add-if3 : tie.Need-add-if3
 add-if3 c = search needs
 
--- src/lib.rt:112:9
 returns-3 : tie.Need-returns-3
 unfolding numberOf lengthOf at16
 returns-3 c =
@@ -80,27 +69,21 @@ returns-3 c =
     let h : length (a .sent .now) < 3 + (octet (a .sent .now) 1 * 256 + octet (a .sent .now) 2) = omega (arith, c .if3 .taken, c .before .before .get16 .ensures .0) in
     gives-told (a .memory .now) (a .room .now) 5 LengthWrong (message-5 (a .memory .now) (a .sent .now) (a .room .now) (taken s) (s .pre .3) (inr (inr h))) refl refl
 
--- src/lib.rt:114:25
 add-list : tie.Need-add-list
 add-list c = search needs
 
--- src/lib.rt:114:16
 sub-list : tie.Need-sub-list
 sub-list c = search needs
 
--- src/lib.rt:114:16
 part-list-start : tie.Need-part-list-start
 part-list-start c = search needs
 
--- src/lib.rt:114:16
 part-list-end : tie.Need-part-list-end
 part-list-end c = search needs
 
--- src/lib.rt:115:9
 whole-requires : tie.Need-whole-requires
 whole-requires c κs = search needs
 
--- src/lib.rt:116:9
 returns-4 : tie.Need-returns-4
 unfolding numberOf lengthOf
 returns-4 c =
@@ -109,22 +92,18 @@ returns-4 c =
     gives-told (a .memory .now) (a .room .now) 6 OperationMalformed
     (message-6 (a .memory .now) (a .sent .now) (a .room .now) (measured (c .before .before .before)) (not-whole _ w)) refl refl
 
--- src/lib.rt:118:5
 carry-out-requires : tie.Need-carry-out-requires
 carry-out-requires c κs =
     let s = c .before .before .before .before .before .before .before .before .before .before .before .before in
     let k = c .before .before .before in
     (s .pre .0, sym (k .whole .ensures) ∙ affirmed _ (c .before .before .if4 .left), rw length-take (omega (arith, s .pre .2, c .before .before .before .before .before .if3 .left)))
 
--- src/lib.rt:100:1
 same-length : tie.Need-same-length
 same-length c = search needs
 
--- src/lib.rt:100:1
 same-length-2 : tie.Need-same-length-2
 same-length-2 c = search needs
 
--- src/lib.rt:100:1
 returns-5 : tie.Need-returns-5
 returns-5 c =
     let a = c .before .before .before .before .before .before .before .before .before .before .before .before .before .before .before .before .before .args in

@@ -1,6 +1,6 @@
 -- `octets::put16` meets its contract.
-use lib.ListN.{length-set}
 use native.Mathlib.Omega.{arith}
+use lib.ListN.{length-set}
 use borrow.Author.Needs.{needs}
 use Rattle.meaning.specs.Octets.{be16}
 use Rattle.octets.proofs.Splices.{two-stores}

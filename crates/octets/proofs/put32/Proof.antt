@@ -1,7 +1,7 @@
 -- `octets::put32` meets its contract.
 use Prim.Native.Nat.{_+_, _/_, _%_}
-use mathlib.Core.Path.{refl}
 use native.Mathlib.Omega.{arith}
+use mathlib.Core.Path.{refl}
 use borrow.Author.Needs.{needs}
 use Rattle.meaning.specs.Octets.{be16, be32}
 use Rattle.octets.proofs.Splices.{then}

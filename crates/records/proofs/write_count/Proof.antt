@@ -1,7 +1,7 @@
 -- `records::write_count` meets its contract.
 use mathlib.Core.Path.{refl}
 use borrow.Author.Needs.{needs}
-use Rattle.records.proofs.Written.{one-store}
+use Rattle.octets.proofs.Splices.{one-store}
 use Rattle.records.proofs.write_count.Statement.{statement}
 use Rattle.records.proofs.write_count.Tie as tie
 

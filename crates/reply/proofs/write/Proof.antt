@@ -1,23 +1,16 @@
-use Prim.Native.Nat.{ℕ, _+_, _≤_, _<_}
+-- `reply::write` meets its contract.
+use Prim.Native.Nat.{_≤_}
 use native.Mathlib.Omega.{arith}
-use mathlib.Core.Path.{_≡_, refl, sym, ap, _∙_}
-use mathlib.Core.Bool.{Bool, true, false}
-use mathlib.Core.List.{List, [], _∷_, _++_}
+use mathlib.Core.Path.{_≡_, sym, ap, _∙_}
 use lib.ListN.{length}
+use borrow.Author.Needs.{needs}
 use Rattle.meaning.specs.Reply.{Records, element, allNames, complete}
 use Rattle.tally.specs.declared.Tally.{Tally}
 use Rattle.tally.proofs.Lengths.{asked-names}
 use Rattle.reply.specs.Sections.{recordsOf, Wrote}
 use Rattle.reply.proofs.Parts.{fits-of, fitting-same, whole-type, whole-names, whole-reads, whole-sets, whole-wrote}
-use borrow.Author.Needs.{needs}
 use Rattle.reply.proofs.write.Statement.{statement}
 use Rattle.reply.proofs.write.Tie as tie
-use Rattle.reply.proofs.write.Reads as reads
-use Rattle.reply.proofs.write.Lts as lts
-use Rattle.records.proofs.write_count.Reads as write-count-reads
-use Rattle.reply.proofs.write_capabilities.Reads as write-capabilities-reads
-use Rattle.reply.proofs.write_reads.Reads as write-reads-reads
-use Rattle.reply.proofs.write_sets.Reads as write-sets-reads
 
 -- what is known from the start
 module _ (c : tie.Start) where
@@ -33,19 +26,16 @@ module _ (c : tie.Start) where
 names-written : (c : tie.After-write-capabilities) → Wrote (c .before .before .before .before .write-count .last .0) (c .before .before .before .before .write-count .result) (element 0x70 (rs (c .before .before .before .before .before .before .before .before .before .before) .capabilities) allNames) (c .write-capabilities .result) (c .write-capabilities .last .1 .0)
 names-written c = rw (names-asked (c .before .before .before .before .before .before .before .before .before .before)) at (c .write-capabilities .ensures)
 
--- src/lib.rt:207:9
 write-count-requires : tie.Need-write-count-requires
 write-count-requires c κs =
     let s = c .before .before .before .before .before in
     (whole-type (rs s) (s .args .out .now) (room s), omega arith)
 
--- src/lib.rt:209:9
 write-capabilities-requires : tie.Need-write-capabilities-requires
 write-capabilities-requires c κs =
     let s = c .before .before .before .before .before .before .before .before .before in
     rw (names-asked s) (whole-names (rs s) (s .args .out .now) (room s) (c .before .before .before .write-count .ensures))
 
--- src/lib.rt:210:9
 write-reads-requires : tie.Need-write-reads-requires
 write-reads-requires c κs =
     let s = c .before .before .before .before .before .before .before .before .before .before .before .before .before .before in
@@ -54,7 +44,6 @@ write-reads-requires c κs =
     let n = v .write-capabilities .kept .1 .0 ∙ w .write-count .kept .0 in
     (s .pre .0, fitting-same _ _ _ _ _ (sym n) (s .pre .1), whole-reads (rs s) (s .args .out .now) (room s) (w .write-count .ensures) (names-written v))
 
--- src/lib.rt:211:5
 write-sets-requires : tie.Need-write-sets-requires
 write-sets-requires c κs =
     let s = c .before .before .before .before .before .before .before .before .before .before .before .before .before .before .before .before .before .before .before .before .before in
@@ -67,15 +56,12 @@ write-sets-requires c κs =
       whole-sets (rs s) (s .args .out .now) (room s) (w .write-count .ensures) (names-written v) (u .write-reads .ensures .1),
     )
 
--- src/lib.rt:202:1
 same-length : tie.Need-same-length
 same-length c = search needs
 
--- src/lib.rt:202:1
 same-length-2 : tie.Need-same-length-2
 same-length-2 c = search needs
 
--- src/lib.rt:202:1
 returns : tie.Need-returns
 returns c =
     let s = c .before .before .before .before .before .before .before .before .before .before .before .before .before .before .before .before .before .before .before .before .before .before .before .before .before .before in

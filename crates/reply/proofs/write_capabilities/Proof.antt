@@ -1,10 +1,10 @@
-use Prim.Native.Nat.{ℕ, _+_, _≤_, _<_}
+-- `reply::write_capabilities` meets its contract.
+use Prim.Native.Nat.{_+_, _≤_}
 use native.Mathlib.Omega.{arith}
-use mathlib.Core.Path.{_≡_, refl, sym, ap, _∙_}
-use mathlib.Core.Bool.{true, false}
-use mathlib.Core.List.{List, [], _∷_, _++_}
+use mathlib.Core.Path.{_≡_}
+use mathlib.Core.List.{_∷_, _++_}
 use lib.ListN.{length}
-use native.Mathlib.Nat.{add-zero}
+use borrow.Author.Needs.{needs}
 use Rattle.meaning.specs.Octets.{be16}
 use Rattle.meaning.specs.Reply.{element, allNames}
 use Rattle.meaning.proofs.Tests.{denied, affirmed}
@@ -12,13 +12,8 @@ use Rattle.records.proofs.Lengths.{names-length}
 use Rattle.reply.specs.Sections.{Wrote}
 use Rattle.reply.proofs.Spelling.{wrote-none, wrote-this}
 use Rattle.reply.proofs.Parts.{wrote-then, first-fits, rest-fits, names-parts}
-use borrow.Author.Needs.{needs}
 use Rattle.reply.proofs.write_capabilities.Statement.{statement}
 use Rattle.reply.proofs.write_capabilities.Tie as tie
-use Rattle.reply.proofs.write_capabilities.Reads as reads
-use Rattle.reply.proofs.write_capabilities.Lts as lts
-use Rattle.records.proofs.write_head.Reads as write-head-reads
-use Rattle.records.proofs.write_names.Reads as write-names-reads
 
 -- where the names are asked
 module _ (c : tie.Else1) where
@@ -32,32 +27,27 @@ head : (c : tie.After-write-head) → Wrote (c .before .before .before .before .
 unfolding be16
 head c = c .write-head .ensures
 
--- src/lib.rt:195:9
 returns : tie.Need-returns
 unfolding element
 returns c =
     let a = c .before .before .args in
     wrote-none (a .out .now) (a .at) (rw (denied (a .needed) (c .if1 .taken)))
 
--- src/lib.rt:197:9
 write-head-requires : tie.Need-write-head-requires
 unfolding be16
 write-head-requires c κs =
     let a = c .before .before .before .args in
     (first-fits (a .out .now) (a .at) (0x70 ∷ be16 38) allNames (fit (c .before)), omega arith)
 
--- src/lib.rt:198:5
 write-names-requires : tie.Need-write-names-requires
 write-names-requires c κs =
     let a = c .before .before .before .before .before .before .before .args in
     let h = c .before .before .before in
     omega (arith, rest-fits (a .out .now) (a .at) (0x70 ∷ be16 38) allNames (fit (h .before .before)) (head h), names-length)
 
--- src/lib.rt:190:1
 same-length : tie.Need-same-length
 same-length c = search needs
 
--- src/lib.rt:190:1
 returns-2 : tie.Need-returns-2
 returns-2 c =
     let a = c .before .before .before .before .before .before .before .before .before .before .args in

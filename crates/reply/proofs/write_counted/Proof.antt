@@ -1,24 +1,18 @@
-use Prim.Native.Nat.{ℕ, _+_, _≤_, _<_}
+-- `reply::write_counted` meets its contract.
+use Prim.Native.Nat.{ℕ}
 use native.Mathlib.Omega.{arith}
-use mathlib.Core.Path.{_≡_, refl, sym, ap, _∙_}
-use mathlib.Core.Bool.{true, false}
-use mathlib.Core.List.{List, [], _∷_, _++_}
-use lib.ListN.{length}
-use Rattle.reply.specs.Sections.{section, counted, recordsOf, Wrote}
-use Rattle.reply.proofs.Spelling.{wrote-this}
-use Rattle.reply.proofs.Parts.{wrote-then, copy-long, first-fits, rest-fits, counted-none}
+use mathlib.Core.Path.{_≡_, sym, ap, _∙_}
+use mathlib.Core.List.{List, [], _∷_}
 use borrow.Author.Needs.{needs}
-use Rattle.reply.proofs.write_counted.Statement.{statement}
-use Rattle.reply.proofs.write_counted.Tie as tie
-use Rattle.reply.proofs.write_counted.Reads as reads
-use Rattle.reply.proofs.write_counted.Lts as lts
-use Rattle.records.proofs.write_count.Reads as write-count-reads
-use Rattle.reply.proofs.write_section.Reads as write-section-reads
-use Rattle.bytes.proofs.copy.Reads as copy-reads
-use Rattle.octets.proofs.Splices.{copied-whole}
-use Rattle.command.proofs.Sets.{long-of}
 use Rattle.meaning.specs.Operation.{parse, orNone}
 use Rattle.meaning.specs.Step.{after}
+use Rattle.octets.proofs.Splices.{copied-whole}
+use Rattle.command.proofs.Sets.{long-of}
+use Rattle.reply.specs.Sections.{section, recordsOf}
+use Rattle.reply.proofs.Spelling.{wrote-this}
+use Rattle.reply.proofs.Parts.{wrote-then, copy-long, first-fits, rest-fits, counted-none}
+use Rattle.reply.proofs.write_counted.Statement.{statement}
+use Rattle.reply.proofs.write_counted.Tie as tie
 
 -- the copy is the memory again
 copied : (c : tie.After-copy) → c .copy .last .1 .0 ≡ c .before .before .before .before .before .before .before .before .before .before .before .args .m .now
@@ -26,15 +20,12 @@ copied c =
     let s = c .before .before .before .before .before .before .before .before .before .before .before in
     copied-whole (s .args .m .now) (s .args .copy .now) (c .copy .last .1 .0) (omega (arith, long-of _ (s .pre .0 .0), copy-long _ _ _ (s .pre .0))) (c .copy .ensures .1)
 
--- src/lib.rt:127:9
 write-count-requires : tie.Need-write-count-requires
 write-count-requires c κs = search needs
 
--- src/lib.rt:129:9
 same-length : tie.Need-same-length
 same-length c = search needs
 
--- src/lib.rt:129:9
 returns : tie.Need-returns
 returns c =
     let s = c .before .before .before .before .before .before .before .before .before in
@@ -43,13 +34,11 @@ returns c =
     let p = c .before .before .before .write-count .ensures in
     (s .pre .0 .3, wrote-this (a .out .now) (a .at) (ap (λ (l : List ℕ). a .count ∷ l) n) (p .0) (p .1))
 
--- src/lib.rt:131:5
 copy-requires : tie.Need-copy-requires
 copy-requires c κs =
     let s = c .before .before .before .before .before .before .before .before .before .before in
     omega (arith, long-of _ (s .pre .0 .0), copy-long _ _ _ (s .pre .0))
 
--- src/lib.rt:132:5
 write-section-requires : tie.Need-write-section-requires
 write-section-requires c κs =
     let s = c .before .before .before .before .before .before .before .before .before .before .before .before .before .before .before in
@@ -57,15 +46,12 @@ write-section-requires c κs =
     let w = rest-fits (a .out .now) (a .at) (a .count ∷ []) (section (a .kind) (recordsOf (a .m .now) (a .list .now))) (s .pre .3) (c .before .before .before .before .before .before .before .before .before .write-count .ensures) in
     rw (copied (c .before .before .before .before)) (s .pre .0 .0, s .pre .0 .1, s .pre .0 .2, w)
 
--- src/lib.rt:114:1
 same-length-2 : tie.Need-same-length-2
 same-length-2 c = search needs
 
--- src/lib.rt:114:1
 same-length-3 : tie.Need-same-length-3
 same-length-3 c = search needs
 
--- src/lib.rt:114:1
 returns-2 : tie.Need-returns-2
 returns-2 c =
     let s = c .before .before .before .before .before .before .before .before .before .before .before .before .before .before .before .before .before .before .before .before in

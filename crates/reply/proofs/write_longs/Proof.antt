@@ -1,31 +1,25 @@
-use Prim.Native.Nat.{ℕ, _+_, _≤_, _<_}
+-- `reply::write_longs` meets its contract.
+use Prim.Native.Nat.{ℕ, _+_, _≤_}
 use native.Mathlib.Omega.{arith}
 use mathlib.Core.Path.{_≡_, refl, sym, ap, _∙_}
-use mathlib.Core.Bool.{true, false}
-use mathlib.Core.List.{List, [], _∷_, _++_}
-use lib.ListN.{length}
+use mathlib.Core.List.{List, _++_}
 use mathlib.Core.Logic.{_≢_}
+use lib.ListN.{length}
+use borrow.Author.Needs.{needs}
 use Rattle.meaning.specs.Octets.{be16, flat}
 use Rattle.meaning.specs.Reply.{Records, heldOctets, longOctets}
-use Rattle.meaning.proofs.Records.{Fits}
+use Rattle.meaning.specs.Operation.{parse, orNone}
+use Rattle.meaning.specs.Step.{after}
 use Rattle.tally.specs.declared.Tally.{Tally}
 use Rattle.tally.proofs.Lengths.{longUpdates-count, longUpdates-octets}
+use Rattle.octets.proofs.Splices.{copied-whole}
+use Rattle.command.proofs.Sets.{long-of}
 use Rattle.reply.specs.declared.Kind.the-variants.{LongUpdates}
 use Rattle.reply.specs.Sections.{section, recordsOf, Wrote}
 use Rattle.reply.proofs.Spelling.{wrote-none, wrote-this}
 use Rattle.reply.proofs.Parts.{wrote-then, copy-long, fits-of, first-fits, rest-fits, long-parts, long-none, long-small}
-use borrow.Author.Needs.{needs}
 use Rattle.reply.proofs.write_longs.Statement.{statement}
 use Rattle.reply.proofs.write_longs.Tie as tie
-use Rattle.reply.proofs.write_longs.Reads as reads
-use Rattle.reply.proofs.write_longs.Lts as lts
-use Rattle.octets.proofs.put16.Reads as put16-reads
-use Rattle.reply.proofs.write_section.Reads as write-section-reads
-use Rattle.bytes.proofs.copy.Reads as copy-reads
-use Rattle.octets.proofs.Splices.{copied-whole}
-use Rattle.command.proofs.Sets.{long-of}
-use Rattle.meaning.specs.Operation.{parse, orNone}
-use Rattle.meaning.specs.Step.{after}
 
 -- where there are long updates
 module _ (c : tie.Else1) where
@@ -60,7 +54,6 @@ copied c =
     let s = c .before .before .before .before .before .before .before .before .before .before .before .before .before in
     copied-whole (s .args .m .now) (s .args .copy .now) (c .copy .last .1 .0) (omega (arith, long-of _ (s .pre .0 .0), copy-long _ _ _ (s .pre .0))) (c .copy .ensures .1)
 
--- src/lib.rt:159:9
 returns : tie.Need-returns
 returns c =
     let s = c .before .before .before .before .before .before .before in
@@ -69,7 +62,6 @@ returns c =
     let n : length (r .longUpdates) ≡ 0 = sym (longUpdates-count r) ∙ ap (λ (t : Tally). t .«long_updates» .count) (sym (s .pre .1 .0)) ∙ c .if1 .taken in
     (s .pre .0 .3, wrote-none (a .out .now) (a .at) (long-none r n))
 
--- src/lib.rt:161:5
 put16-requires : tie.Need-put16-requires
 unfolding be16
 put16-requires c κs =
@@ -77,17 +69,14 @@ put16-requires c κs =
     let k = c .before in
     (first-fits (a .out .now) (a .at) (be16 (octets k)) (section LongUpdates (rs k)) (inRoom k), omega (arith, small k))
 
--- src/lib.rt:162:5
 copy-requires : tie.Need-copy-requires
 copy-requires c κs =
     let s = c .before .before .before .before .before .before .before .before .before .before .before .before in
     omega (arith, long-of _ (s .pre .0 .0), copy-long _ _ _ (s .pre .0))
 
--- src/lib.rt:163:55
 add-write-section : tie.Need-add-write-section
 add-write-section c = search needs
 
--- src/lib.rt:163:5
 write-section-requires : tie.Need-write-section-requires
 write-section-requires c κs =
     let s = c .before .before .before .before .before .before .before .before .before .before .before .before .before .before .before .before .before in
@@ -95,15 +84,12 @@ write-section-requires c κs =
     let k = p .before .before in
     rw (copied (c .before .before .before .before)) (s .pre .0 .0, s .pre .0 .1, s .pre .0 .2, rest-fits (s .args .out .now) (s .args .at) (be16 (octets k)) (section LongUpdates (rs k)) (inRoom k) (headed p))
 
--- src/lib.rt:152:1
 same-length : tie.Need-same-length
 same-length c = search needs
 
--- src/lib.rt:152:1
 same-length-2 : tie.Need-same-length-2
 same-length-2 c = search needs
 
--- src/lib.rt:152:1
 returns-2 : tie.Need-returns-2
 returns-2 c =
     let a = c .before .before .before .before .before .before .before .before .before .before .before .before .before .before .before .before .before .before .before .before .before .before .args in

@@ -1,9 +1,11 @@
-use Prim.Native.Nat.{ℕ, _+_, _≤_, _<_}
+-- `reply::write_reads` meets its contract.
+use Prim.Native.Nat.{_≤_}
 use native.Mathlib.Omega.{arith}
-use mathlib.Core.Path.{_≡_, refl, sym, ap, _∙_}
+use mathlib.Core.Path.{_≡_, sym, ap, _∙_}
 use mathlib.Core.Bool.{true, false}
-use mathlib.Core.List.{List, [], _∷_, _++_}
+use mathlib.Core.List.{_∷_}
 use lib.ListN.{length}
+use borrow.Author.Needs.{needs}
 use Rattle.meaning.specs.Octets.{be16}
 use Rattle.meaning.specs.Reply.{Records, readContents, element, anyRead}
 use Rattle.meaning.proofs.Records.{Fits}
@@ -16,15 +18,8 @@ use Rattle.reply.specs.declared.Kind.the-variants.{Values, ReadErrors}
 use Rattle.reply.specs.Sections.{counted, recordsOf, Wrote}
 use Rattle.reply.proofs.Spelling.{wrote-none}
 use Rattle.reply.proofs.Parts.{fits-of, countedSection, read-small, reads-head, reads-values, reads-errors, reads-wrote}
-use borrow.Author.Needs.{needs}
 use Rattle.reply.proofs.write_reads.Statement.{statement}
 use Rattle.reply.proofs.write_reads.Tie as tie
-use Rattle.reply.proofs.write_reads.Reads as reads
-use Rattle.reply.proofs.write_reads.Lts as lts
-use Rattle.records.proofs.write_head.Reads as write-head-reads
-use Rattle.reply.proofs.write_counted.Reads as write-counted-reads
-use Rattle.tally.proofs.any_read.Reads as any-read-reads
-use Rattle.tally.proofs.read_octets.Reads as read-octets-reads
 
 -- where a read was asked
 module _ (c : tie.After-read-octets) where
@@ -61,11 +56,9 @@ headed c = c .write-head .ensures
 counted-values : (c : tie.After-write-counted) → Wrote (c .before .before .before .before .before .write-head .last .0) (c .before .before .before .before .before .write-head .result) (countedSection Values (rs (c .before .before .before .before .before .before))) (c .write-counted .result) (c .write-counted .last .1 .1 .1 .1 .1 .0)
 counted-values c = rw (sym (values-are (c .before .before .before .before .before .before))) (c .write-counted .ensures .1)
 
--- src/lib.rt:148:9
 any-read-requires : tie.Need-any-read-requires
 any-read-requires c κs = search needs
 
--- src/lib.rt:149:9
 returns : tie.Need-returns
 unfolding element
 returns c =
@@ -75,17 +68,14 @@ returns c =
     let n : anyRead r ≡ false = sym (any-read r) ∙ ap tallies.anyRead (sym (s .pre .1 .0)) ∙ sym (c .before .any-read .ensures) ∙ denied _ (c .if1 .taken) in
     (s .pre .0 .3, wrote-none (a .out .now) (a .at) (rw n))
 
--- src/lib.rt:151:52
 read-octets-requires : tie.Need-read-octets-requires
 read-octets-requires c κs = search needs
 
--- src/lib.rt:151:9
 write-head-requires : tie.Need-write-head-requires
 write-head-requires c κs =
     let s = c .before .before .before .before .before .before .before .before in
     (reads-head (rs c) (s .args .out .now) (s .args .at) (c .read-octets .result) (s .pre .2) (any c) (long c), omega (arith, long c, read-small (rs c) _ (fits c) (any c)))
 
--- src/lib.rt:153:9
 write-counted-requires : tie.Need-write-counted-requires
 write-counted-requires c κs =
     let s = c .before .before .before .before .before .before .before .before .before .before .before .before .before in
@@ -97,7 +87,6 @@ write-counted-requires c κs =
       omega (arith, reads-values (rs k) (s .args .out .now) (s .args .at) (k .read-octets .result) (s .pre .2) (any k) (long k) (headed h)),
     )
 
--- src/lib.rt:155:5
 write-counted-requires-2 : tie.Need-write-counted-requires-2
 write-counted-requires-2 c κs =
     let s = c .before .before .before .before .before .before .before .before .before .before .before .before .before .before .before .before .before .before .before .before in
@@ -110,15 +99,12 @@ write-counted-requires-2 c κs =
       omega (arith, reads-errors (rs k) (s .args .out .now) (s .args .at) (k .read-octets .result) (s .pre .2) (any k) (long k) (headed h) (counted-values w)),
     )
 
--- src/lib.rt:143:1
 same-length : tie.Need-same-length
 same-length c = search needs
 
--- src/lib.rt:143:1
 same-length-2 : tie.Need-same-length-2
 same-length-2 c = search needs
 
--- src/lib.rt:143:1
 returns-2 : tie.Need-returns-2
 returns-2 c =
     let s = c .before .before .before .before .before .before .before .before .before .before .before .before .before .before .before .before .before .before .before .before .before .before .before .before .before in

@@ -1,21 +1,15 @@
-use Prim.Native.Nat.{ℕ, _-_, _≤_, _<_}
+-- `reply::write_section` meets its contract.
+use Prim.Native.Nat.{_-_, _≤_, _<_}
 use native.Mathlib.Omega.{arith}
-use mathlib.Core.Path.{_≡_, refl, sym, ap, _∙_}
-use mathlib.Core.List.{List}
+use mathlib.Core.Path.{refl, sym, _∙_}
 use lib.ListN.{length}
 use borrow.Author.Needs.{needs}
 use Rattle.operation.specs.Handing.{Inside}
 use Rattle.command.proofs.Sets.{long-of}
 use Rattle.command.proofs.Walk.{under-ahead}
 use Rattle.reply.proofs.Loop.{Writing, writing-start, writing-end, turn-fits, writing-turn}
-use native.Mathlib.Omega.{arith}
 use Rattle.reply.proofs.write_section.Statement.{statement}
 use Rattle.reply.proofs.write_section.Tie as tie
-use Rattle.reply.proofs.write_section.Reads as reads
-use Rattle.reply.proofs.write_section.Lts as lts
-use Rattle.command.proofs.carry_out.Reads as carry-out-reads
-use Rattle.operation.proofs.hand_out.Reads as hand-out-reads
-use Rattle.reply.proofs.write_answer.Reads as write-answer-reads
 
 abbrev Inv-loop : tie.InvT-loop
 Inv-loop list kind copy₀ out₀ at end₀ from₀ copy out end from = Writing kind copy₀ list out₀ at copy out end from
@@ -56,13 +50,14 @@ returns c =
 carry-out-requires : tie.Need-carry-out-requires Inv-loop μ-loop
 carry-out-requires c κs = (c .before .before .before .before .before .loop .inv .under .isSound, ahead (c .before .before) .2)
 
-write-answer-requires : tie.Need-write-answer-requires Inv-loop μ-loop
-write-answer-requires c κs =
+spell-requires : tie.Need-spell-requires Inv-loop μ-loop
+spell-requires c κs =
     let k = c .before .before .before .before .carry-out in
     let h = c .before .before .before .before .before .before .before in
     let l = c .before .before .before .before .before .before .before .before .before .before .loop in (
       k .kept .0 ∙ long-of _ (l .inv .under .isSound),
       c .before .before .before .before .before .before .before .before .before .before .before .before .before .before .pre .2,
+      ahead h .2,
       k .ensures .1 .1,
       turn-fits _ _ _ _ _ _ _ (l .end) (l .from) (l .inv) _ (h .before .before .hand-out .ensures) _ _ (h .h .given .1) _ (k .result) (k .ensures .0) (k .ensures .1 .0),
     )
@@ -78,7 +73,7 @@ loop-again c =
     let k = c .before .before .before .before .before .before .before .carry-out in
     let l = c .before .before .before .before .before .before .before .before .before .before .before .before .before .loop in
     writing-turn _ _ _ _ _ _ _ (l .end) (l .from) (l .inv) _ (h .before .before .hand-out .ensures) _ _ (h .h .given .1) _ (k .result) (k .ensures .0) (k .ensures .1 .0) _ _
-    (c .before .before .write-answer .ensures)
+    (c .before .before .spell .ensures)
 
 pub write-section-spec : {M : Type 1} → statement M
 write-section-spec =
@@ -93,6 +88,6 @@ write-section-spec =
     same-length-2
     returns
     carry-out-requires
-    write-answer-requires
+    spell-requires
     loop-less
     loop-again)

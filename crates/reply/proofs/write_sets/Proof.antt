@@ -1,9 +1,11 @@
-use Prim.Native.Nat.{ℕ, _+_, _≤_, _<_}
+-- `reply::write_sets` meets its contract.
+use Prim.Native.Nat.{_≤_}
 use native.Mathlib.Omega.{arith}
-use mathlib.Core.Path.{_≡_, refl, sym, ap, _∙_}
+use mathlib.Core.Path.{_≡_, sym, ap, _∙_}
 use mathlib.Core.Bool.{true, false}
-use mathlib.Core.List.{List, [], _∷_, _++_}
+use mathlib.Core.List.{_∷_}
 use lib.ListN.{length}
+use borrow.Author.Needs.{needs}
 use Rattle.meaning.specs.Octets.{be16}
 use Rattle.meaning.specs.Reply.{Records, setContents, element, anySet}
 use Rattle.meaning.proofs.Records.{Fits}
@@ -16,16 +18,8 @@ use Rattle.reply.specs.declared.Kind.the-variants.{Updates, UpdateErrors
 use Rattle.reply.specs.Sections.{counted, recordsOf, Wrote}
 use Rattle.reply.proofs.Spelling.{wrote-none}
 use Rattle.reply.proofs.Parts.{fits-of, fitting-same, countedSection, set-small, sets-head, sets-updates, sets-errors, sets-longs, sets-wrote}
-use borrow.Author.Needs.{needs}
 use Rattle.reply.proofs.write_sets.Statement.{statement}
 use Rattle.reply.proofs.write_sets.Tie as tie
-use Rattle.reply.proofs.write_sets.Reads as reads
-use Rattle.reply.proofs.write_sets.Lts as lts
-use Rattle.records.proofs.write_head.Reads as write-head-reads
-use Rattle.reply.proofs.write_counted.Reads as write-counted-reads
-use Rattle.reply.proofs.write_longs.Reads as write-longs-reads
-use Rattle.tally.proofs.any_set.Reads as any-set-reads
-use Rattle.tally.proofs.set_octets.Reads as set-octets-reads
 
 -- where a set was asked
 module _ (c : tie.After-set-octets) where
@@ -65,11 +59,9 @@ counted-updates c = rw (sym (updates-are (c .before .before .before .before .bef
 counted-errors : (c : tie.After-write-counted2) → Wrote (c .before .before .before .before .before .before .before .write-counted .last .1 .1 .1 .1 .1 .0) (c .before .before .before .before .before .before .before .write-counted .result) (countedSection UpdateErrors (rs (c .before .before .before .before .before .before .before .before .before .before .before .before .before))) (c .write-counted2 .result) (c .write-counted2 .last .1 .1 .1 .1 .1 .0)
 counted-errors c = rw (sym (errors-are (c .before .before .before .before .before .before .before .before .before .before .before .before .before))) (c .write-counted2 .ensures .1)
 
--- src/lib.rt:178:9
 any-set-requires : tie.Need-any-set-requires
 any-set-requires c κs = search needs
 
--- src/lib.rt:179:9
 returns : tie.Need-returns
 unfolding element
 returns c =
@@ -79,17 +71,14 @@ returns c =
     let n : anySet r ≡ false = sym (any-set r) ∙ ap tallies.anySet (sym (s .pre .1 .0)) ∙ sym (c .before .any-set .ensures) ∙ denied _ (c .if1 .taken) in
     (s .pre .0 .3, wrote-none (a .out .now) (a .at) (rw n))
 
--- src/lib.rt:181:52
 set-octets-requires : tie.Need-set-octets-requires
 set-octets-requires c κs = search needs
 
--- src/lib.rt:181:9
 write-head-requires : tie.Need-write-head-requires
 write-head-requires c κs =
     let s = c .before .before .before .before .before .before .before .before in
     (sets-head (rs c) (s .args .out .now) (s .args .at) (c .set-octets .result) (s .pre .2) (any c) (long c), omega (arith, long c, set-small (rs c) _ (fits c) (any c)))
 
--- src/lib.rt:183:9
 write-counted-requires : tie.Need-write-counted-requires
 write-counted-requires c κs =
     let s = c .before .before .before .before .before .before .before .before .before .before .before .before .before in
@@ -101,7 +90,6 @@ write-counted-requires c κs =
       omega (arith, sets-updates (rs k) (s .args .out .now) (s .args .at) (k .set-octets .result) (s .pre .2) (any k) (long k) (headed h)),
     )
 
--- src/lib.rt:185:9
 write-counted-requires-2 : tie.Need-write-counted-requires-2
 write-counted-requires-2 c κs =
     let s = c .before .before .before .before .before .before .before .before .before .before .before .before .before .before .before .before .before .before .before .before in
@@ -114,7 +102,6 @@ write-counted-requires-2 c κs =
       omega (arith, sets-errors (rs k) (s .args .out .now) (s .args .at) (k .set-octets .result) (s .pre .2) (any k) (long k) (headed h) (counted-updates w)),
     )
 
--- src/lib.rt:186:5
 write-longs-requires : tie.Need-write-longs-requires
 write-longs-requires c κs =
     let s = c .before .before .before .before .before .before .before .before .before .before .before .before .before .before .before .before .before .before .before .before .before .before .before .before .before .before .before in
@@ -128,15 +115,12 @@ write-longs-requires c κs =
       sets-longs (rs k) (s .args .out .now) (s .args .at) (k .set-octets .result) (s .pre .2) (any k) (long k) (headed h) (counted-updates w) (counted-errors v),
     )
 
--- src/lib.rt:173:1
 same-length : tie.Need-same-length
 same-length c = search needs
 
--- src/lib.rt:173:1
 same-length-2 : tie.Need-same-length-2
 same-length-2 c = search needs
 
--- src/lib.rt:173:1
 returns-2 : tie.Need-returns-2
 returns-2 c =
     let s = c .before .before .before .before .before .before .before .before .before .before .before .before .before .before .before .before .before .before .before .before .before .before .before .before .before .before .before .before .before .before .before .before in

@@ -1,22 +1,18 @@
-use Prim.Native.Nat.{ℕ, _+_, _≤_, _<_}
+-- `reply::write_value` meets its contract.
+use Prim.Native.Nat.{ℕ, _+_}
 use native.Mathlib.Omega.{arith}
-use mathlib.Core.Path.{_≡_, refl, sym, ap, _∙_}
+use mathlib.Core.Path.{_≡_, sym, ap, _∙_}
 use mathlib.Core.List.{List}
 use lib.ListN.{length}
+use borrow.Author.Needs.{needs}
 use Rattle.meaning.specs.Octets.{splice}
 use Rattle.meaning.specs.Block.{sums}
 use Rattle.meaning.specs.Step.{shown}
 use Rattle.meaning.specs.Reply.{heldOctets}
 use Rattle.records.proofs.Lengths.{held-length}
 use Rattle.tally.proofs.Loop.{shown-value, shown-short, shown-sums}
-use borrow.Author.Needs.{needs}
 use Rattle.reply.proofs.write_value.Statement.{statement}
 use Rattle.reply.proofs.write_value.Tie as tie
-use Rattle.reply.proofs.write_value.Reads as reads
-use Rattle.reply.proofs.write_value.Lts as lts
-use Rattle.memory.proofs.body.Reads as body-reads
-use Rattle.records.proofs.write_held.Reads as write-held-reads
-use Rattle.schedule.proofs.write_sums.Reads as write-sums-reads
 
 -- the sums are what a read of 8001 shows
 sums-shown : (c : tie.After-write-sums) → c .write-sums .last .1 .0 ≡ shown (c .before .before .before .before .before .before .args .m .now) (c .before .before .before .before .before .before .args .k)
@@ -24,22 +20,18 @@ sums-shown c =
     let a = c .before .before .before .before .before .before .args in
     c .write-sums .ensures ∙ ap sums (c .before .before .before .body .ensures) ∙ sym (shown-sums (a .m .now) (a .k) (c .before .before .if1 .left))
 
--- src/lib.rt:36:9
 body-requires : tie.Need-body-requires
 body-requires c κs = search needs
 
--- src/lib.rt:38:9
 write-held-requires : tie.Need-write-held-requires
 write-held-requires c κs =
     let s = c .before .before .before .before .before in
     let e : c .before .before .body .result .now ≡ shown (s .args .m .now) (s .args .k) = c .before .before .body .ensures ∙ sym (shown-value (s .args .m .now) (s .args .k) (c .before .if1 .taken)) in
     (omega (arith, ap length e, s .pre .3, held-length (record { name = s .args .name; value = shown (s .args .m .now) (s .args .k) })), s .pre .2, omega (arith, ap length e, shown-short (s .args .m .now) (s .args .k) (s .pre .1)))
 
--- src/lib.rt:38:9
 same-length : tie.Need-same-length
 same-length c = search needs
 
--- src/lib.rt:38:9
 returns : tie.Need-returns
 returns c =
     let a = c .before .before .before .before .before .before .before .before .args in
@@ -48,30 +40,24 @@ returns c =
     let p = c .before .before .write-held .ensures in
     (p .0 ∙ ap (λ (v : List ℕ). a .at + (4 + length v)) e ∙ ap (λ (n : ℕ). a .at + n) (sym (held-length (record { name = a .name; value = shown (a .m .now) (a .k) }))), p .1 ∙ ap (λ (v : List ℕ). splice (a .out .now) (a .at) (heldOctets (record { name = a .name; value = v }))) e)
 
--- src/lib.rt:41:29
 slice-aggregate-write-sums : tie.Need-slice-aggregate-write-sums
 slice-aggregate-write-sums c = search needs
 
--- src/lib.rt:41:5
 write-sums-requires : tie.Need-write-sums-requires
 write-sums-requires c κs = search needs
 
--- src/lib.rt:42:40
 slice-aggregate-write-held : tie.Need-slice-aggregate-write-held
 slice-aggregate-write-held c = search needs
 
--- src/lib.rt:42:5
 write-held-requires-2 : tie.Need-write-held-requires-2
 write-held-requires-2 c κs =
     let s = c .before .before .before .before .before .before .before .before .before in
     let e = sums-shown (c .before .before .before) in
     (omega (arith, ap length e, s .pre .3, held-length (record { name = s .args .name; value = shown (s .args .m .now) (s .args .k) })), s .pre .2, omega (arith, ap length e, shown-short (s .args .m .now) (s .args .k) (s .pre .1)))
 
--- src/lib.rt:32:1
 same-length-2 : tie.Need-same-length-2
 same-length-2 c = search needs
 
--- src/lib.rt:32:1
 returns-2 : tie.Need-returns-2
 returns-2 c =
     let a = c .before .before .before .before .before .before .before .before .before .before .before .before .args in

@@ -1,17 +1,13 @@
-use mathlib.Core.Path.{_≡_, refl, sym, ap, _∙_}
-use native.Mathlib.Omega.{arith}
-use Rattle.tally.specs.Tallies.{anyRead}
+-- `tally::any_read` meets its contract.
+use mathlib.Core.Path.{refl}
 use borrow.Author.Needs.{needs}
+use Rattle.tally.specs.Tallies.{anyRead}
 use Rattle.tally.proofs.any_read.Statement.{statement}
 use Rattle.tally.proofs.any_read.Tie as tie
-use Rattle.tally.proofs.any_read.Reads as reads
-use Rattle.tally.proofs.any_read.Lts as lts
 
--- src/lib.rt:134:5
 add-result : tie.Need-add-result
 add-result c = search needs
 
--- src/lib.rt:130:1
 returns : tie.Need-returns
 unfolding anyRead
 returns c = refl

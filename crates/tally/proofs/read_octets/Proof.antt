@@ -1,21 +1,17 @@
-use mathlib.Core.Path.{_≡_, refl, sym, ap, _∙_}
+-- `tally::read_octets` meets its contract.
 use native.Mathlib.Omega.{arith}
-use Rattle.tally.specs.Tallies.{readOctets}
+use mathlib.Core.Path.{refl}
 use borrow.Author.Needs.{needs}
+use Rattle.tally.specs.Tallies.{readOctets}
 use Rattle.tally.proofs.read_octets.Statement.{statement}
 use Rattle.tally.proofs.read_octets.Tie as tie
-use Rattle.tally.proofs.read_octets.Reads as reads
-use Rattle.tally.proofs.read_octets.Lts as lts
 
--- src/lib.rt:150:5
 add-result : tie.Need-add-result
 add-result c = search needs
 
--- src/lib.rt:150:5
 add-result-2 : tie.Need-add-result-2
 add-result-2 c = search needs
 
--- src/lib.rt:146:1
 returns : tie.Need-returns
 unfolding readOctets
 returns c = (refl, omega (arith, c .before .before .pre .0 .1, c .before .before .pre .1 .1))

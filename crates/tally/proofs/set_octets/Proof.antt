@@ -1,37 +1,29 @@
-use mathlib.Core.Path.{_≡_, refl, sym, ap, _∙_}
+-- `tally::set_octets` meets its contract.
 use native.Mathlib.Omega.{arith}
 use borrow.Author.Tests.{eq-eqb, ne-eqb}
-use Rattle.tally.specs.Tallies.{longOctets, setOctets}
 use borrow.Author.Needs.{needs}
+use Rattle.tally.specs.Tallies.{longOctets, setOctets}
 use Rattle.tally.proofs.set_octets.Statement.{statement}
 use Rattle.tally.proofs.set_octets.Tie as tie
-use Rattle.tally.proofs.set_octets.Reads as reads
-use Rattle.tally.proofs.set_octets.Lts as lts
 
--- src/lib.rt:158:13
 add-n : tie.Need-add-n
 add-n c = search needs
 
--- src/lib.rt:158:13
 add-n-2 : tie.Need-add-n-2
 add-n-2 c = search needs
 
--- src/lib.rt:160:9
 returns : tie.Need-returns
 unfolding setOctets longOctets
 returns c =
     let s = c .before .before .before .before in
     (rw (eq-eqb _ _ (c .if1 .taken)) (omega arith), omega (arith, s .pre .2 .1, s .pre .3 .1))
 
--- src/lib.rt:162:10
 add-result : tie.Need-add-result
 add-result c = search needs
 
--- src/lib.rt:162:5
 add-result-2 : tie.Need-add-result-2
 add-result-2 c = search needs
 
--- src/lib.rt:154:1
 returns-2 : tie.Need-returns-2
 unfolding setOctets longOctets
 returns-2 c =

@@ -1,24 +1,18 @@
-use Prim.Native.Nat.{ℕ, _-_, _*_, _≤_, _<_}
+-- `tally::take` meets its contract.
+use Prim.Native.Nat.{_-_, _*_, _≤_, _<_}
 use native.Mathlib.Omega.{arith}
-use mathlib.Core.Path.{_≡_, refl, sym, ap, _∙_}
-use mathlib.Core.List.{List}
+use mathlib.Core.Path.{sym, _∙_}
 use lib.ListN.{length}
+use borrow.Author.Needs.{needs}
 use Rattle.operation.specs.Handing.{Inside}
+use Rattle.operation.proofs.Turns.{inside-within}
 use Rattle.octets.proofs.Splices.{copied-whole}
 use Rattle.command.proofs.Sets.{long-of}
-use Rattle.command.proofs.Walk.{under-ahead, Under}
+use Rattle.command.proofs.Walk.{under-ahead}
 use Rattle.tally.proofs.Plus.{below-more}
-use Rattle.tally.proofs.Loop.{Counting, counting-start, counting-end, counting-turn, told-within}
-use borrow.Author.Needs.{needs}
-use native.Mathlib.Omega.{arith}
+use Rattle.tally.proofs.Loop.{Counting, counting-start, counting-end, counting-turn}
 use Rattle.tally.proofs.take.Statement.{statement}
 use Rattle.tally.proofs.take.Tie as tie
-use Rattle.tally.proofs.take.Reads as reads
-use Rattle.tally.proofs.take.Lts as lts
-use Rattle.bytes.proofs.copy.Reads as copy-reads
-use Rattle.command.proofs.carry_out.Reads as carry-out-reads
-use Rattle.operation.proofs.hand_out.Reads as hand-out-reads
-use Rattle.tally.proofs.add.Reads as add-reads
 
 abbrev Inv-loop : tie.InvT-loop
 Inv-loop m list copy₀ t₀ at₀ copy t at = Counting m list copy t at
@@ -33,42 +27,34 @@ ahead c =
     let l = c .before .before .before .loop in
     under-ahead _ _ _ (l .at) (l .inv .under) _ (c .before .before .hand-out .ensures) _ _ (c .h .given .1)
 
--- src/lib.rt:101:5
 copy-requires : tie.Need-copy-requires Inv-loop μ-loop
 copy-requires c κs =
     let s = c .before .before .before .before in
     omega (arith, long-of _ (s .pre .0), s .pre .3)
 
--- src/lib.rt:115:5
 loop-holds : tie.Need-loop-holds Inv-loop μ-loop
 loop-holds c =
     let s = c .before .before .before .before .before .before .before in
     let k = c .before .before .copy in
     counting-start _ _ _ (s .pre .0) (s .pre .1) (copied-whole (s .args .m .now) (s .args .copy .now) (k .last .1 .0) (omega (arith, long-of _ (s .pre .0), s .pre .3)) (k .ensures .1))
 
--- src/lib.rt:116:13
 hand-out-requires : tie.Need-hand-out-requires Inv-loop μ-loop
 hand-out-requires c κs = search needs
 
--- src/lib.rt:117:31
 enum-known-h : tie.Need-enum-known-h Inv-loop μ-loop
 enum-known-h c = search needs
 
--- src/lib.rt:118:13
 same-length : tie.Need-same-length Inv-loop μ-loop
 same-length c = long-of _ (c .before .before .loop .inv .under .isSound) ∙ sym (c .before .before .before .before .before .before .before .before .before .before .pre .3)
 
--- src/lib.rt:118:13
 returns : tie.Need-returns Inv-loop μ-loop
 returns c =
     let e = counting-end _ _ _ _ (c .before .before .loop .at) (c .before .before .loop .inv) _ (c .before .hand-out .ensures) (c .before .before .before .before .before .before .before .before .before .before .pre .2) (c .match .keys2) in
     (e .0, (e .1, e .2))
 
--- src/lib.rt:120:13
 carry-out-requires : tie.Need-carry-out-requires Inv-loop μ-loop
 carry-out-requires c κs = (c .before .before .before .before .before .loop .inv .under .isSound, ahead (c .before .before) .2)
 
--- src/lib.rt:121:9
 add-requires : tie.Need-add-requires Inv-loop μ-loop
 add-requires c κs =
     let k = c .before .before .before in
@@ -76,16 +62,15 @@ add-requires c κs =
     let l = c .before .before .before .before .before .before .before .before .before .loop in (
       k .carry-out .kept .0 ∙ long-of _ (l .inv .under .isSound),
       below-more (4096 * l .at) 16777216 (l .t) (omega (arith, l .inv .under .inside, s .pre .2)) (l .inv .small),
-      told-within _ (k .carry-out .result) (s .pre .2) (k .carry-out .ensures .1 .1),
+      inside-within _ 2048 (c .before .before .before .before .before .before .h .given .0 .0) (s .pre .2) (ahead (c .before .before .before .before .before .before) .2),
+      k .carry-out .ensures .1 .1,
     )
 
--- src/lib.rt:115:5
 loop-less : tie.Need-loop-less Inv-loop μ-loop
 loop-less c =
     let w = ahead (c .before .before .before .before .before .before .before) in
     omega (arith, w .0, w .1)
 
--- src/lib.rt:115:5
 loop-again : tie.Need-loop-again Inv-loop μ-loop
 loop-again c =
     let h = c .before .before .before .before .before .before .before in

@@ -1,6 +1,6 @@
 -- `text::digit` meets its contract.
-use Rattle.text.proofs.Writes.{digit-is, masked}
 use borrow.Author.Needs.{needs}
+use Rattle.text.proofs.Writes.{digit-is, masked}
 use Rattle.text.proofs.digit.Statement.{statement}
 use Rattle.text.proofs.digit.Tie as tie
 

@@ -1,9 +1,9 @@
 -- `text::write_hex` meets its contract.
-use borrow.Author.Needs.{needs}
 use Prim.Native.Nat.{_+_, _-_, _≤_}
 use native.Mathlib.Omega.{arith}
 use mathlib.Core.Path.{_≡_, sym, _∙_}
 use lib.ListN.{length, drop, length-set}
+use borrow.Author.Needs.{needs}
 use Rattle.meaning.specs.Octets.{splice}
 use Rattle.text.specs.Lines.{hex}
 use Rattle.text.proofs.Writes.{hex-length, hex-turn, hex-end}

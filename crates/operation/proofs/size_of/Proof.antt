@@ -1,0 +1,55 @@
+-- `operation::size_of` meets its contract.
+use borrow.Author.Needs.{needs}
+use Rattle.operation.specs.Handing.{sizeOf}
+use Rattle.operation.proofs.size_of.Statement.{statement}
+use Rattle.operation.proofs.size_of.Tie as tie
+
+enum-told : tie.Need-enum-told
+enum-told c = search needs
+
+enum-told-2 : tie.Need-enum-told-2
+enum-told-2 c = search needs
+
+enum-known-op : tie.Need-enum-known-op
+enum-known-op c = search needs
+
+enum-told-3 : tie.Need-enum-told-3
+enum-told-3 c = search needs
+
+enum-told-4 : tie.Need-enum-told-4
+enum-told-4 c = search needs
+
+returns : tie.Need-returns
+unfolding sizeOf
+returns c = search needs
+
+returns-2 : tie.Need-returns-2
+unfolding sizeOf
+returns-2 c = search needs
+
+returns-3 : tie.Need-returns-3
+unfolding sizeOf
+returns-3 c = search needs
+
+returns-4 : tie.Need-returns-4
+unfolding sizeOf
+returns-4 c = search needs
+
+returns-5 : tie.Need-returns-5
+unfolding sizeOf
+returns-5 c = search needs
+
+pub size-of-spec : {M : Type 1} → statement M
+size-of-spec =
+    tie.close
+    (tie.spec
+    enum-told
+    enum-told-2
+    enum-known-op
+    enum-told-3
+    enum-told-4
+    returns
+    returns-2
+    returns-3
+    returns-4
+    returns-5)
