@@ -1,20 +1,20 @@
 -- The loop that writes the records of a kind: what is known before each turn, and what a turn writes.
 use Prim.Native.Nat.{ℕ, _+_, _≤_}
-use native.Mathlib.Omega.{arith}
 use types.Run.{OneOf}
-use mathlib.Core.Path.{_≡_, refl, sym, ap, _∙_}
+use mathlib.Core.Path.{_≡_, refl, ap, _∙_}
 use mathlib.Core.Bool.{true}
 use mathlib.Core.List.{List, [], _∷_, _++_}
-use lib.ListN.{length, length-append}
+use lib.ListN.{length}
 use denote.Enum.Declared.{tagOf}
-use Rattle.meaning.specs.Octets.{flat, splice}
+use Rattle.meaning.specs.Octets.{flat}
 use Rattle.meaning.specs.Memory.{sound}
 use Rattle.meaning.specs.Operation.{parse, isSome}
 use Rattle.meaning.specs.Step.{step, answer, answers, after}
 use Rattle.meaning.specs.Reply.{Records, joined, recordOf, gathered, heldOctets, shortOctets, failedOctets}
 use Rattle.meaning.specs.Calls.{records}
-use Rattle.meaning.proofs.Lists.{flat-append, splice-length}
-use Rattle.octets.proofs.Splices.{splice-nil, splice-splice}
+use Rattle.meaning.proofs.Lists.{flat-append}
+use Rattle.records.specs.Writing.{Wrote}
+use Rattle.records.proofs.Pieces.{Left, left-start, left-as, first-fits, left-next, left-none}
 use Rattle.operation.specs.declared.Op.{Op}
 use Rattle.operation.specs.declared.Handed.{Handed}
 use Rattle.operation.specs.declared.Handed.the-variants.{Operation}
@@ -26,7 +26,7 @@ use Rattle.command.specs.Answers.{answerOf}
 use Rattle.command.proofs.Walk.{Under, rest, under-start, under-end, under-rest, under-turn}
 use Rattle.reply.specs.declared.Kind.{Kind}
 use Rattle.reply.specs.declared.Kind.the-variants.{Values, ReadErrors, Updates, UpdateErrors, LongUpdates}
-use Rattle.reply.specs.Sections.{section, Wrote}
+use Rattle.reply.specs.Sections.{section}
 use Rattle.reply.proofs.Spelling.{spelt}
 
 section-joined : (k : Kind) (r s : Records) → section k (joined r s) ≡ section k r ++ section k s
@@ -49,27 +49,23 @@ section-none LongUpdates m = refl
 abbrev pub left : Kind → List ℕ → List ℕ → ℕ → List ℕ
 left k m list from = section k (records m (rest list from))
 
--- what is in the room, with the records to come behind it, is the whole section at its place
+-- the memory as the turns so far leave it, and the records to come
 pub record Writing (k : Kind) (m list out₀ : List ℕ) (at : ℕ) (copy out : List ℕ) (end from : ℕ) : Type 0 where
   pub under : Under m list copy from
-  pub leads : splice out end (left k copy list from) ≡ splice out₀ at (left k m list 0)
-  pub ends : end + length (left k copy list from) ≡ at + length (left k m list 0)
-  pub same : length out ≡ length out₀
-  pub fits : at + length (left k m list 0) ≤ length out₀
+  pub remains : Left out₀ at (left k m list 0) out end (left k copy list from)
 
 pub writing-start : (k : Kind) (m list out : List ℕ) (at : ℕ) (copy : List ℕ) → sound m ≡ true → isSome (parse list) ≡ true → copy ≡ m
     → at + length (left k m list 0) ≤ length out → Writing k m list out at copy out at 0
 writing-start k m list out at copy s w e h =
-    record { under = under-start m list copy s w e; leads = rw e; ends = rw e; same = refl; fits = h }
+    record { under = under-start m list copy s w e; remains = rw e (left-start out at (left k m list 0) h) }
 
 module _ (k : Kind) (m list out₀ : List ℕ) (at : ℕ) (copy out : List ℕ) (end from : ℕ) (u : Writing k m list out₀ at copy out end from)
     (h : Handed) (hands : HandsOut list from h) where
-  pub writing-end : OneOf (1 ∷ 2 ∷ []) (tagOf the-type h)
-      → (end ≡ at + length (left k m list 0)) × (copy ≡ after m (rest list 0)) × (out ≡ splice out₀ at (left k m list 0))
+  pub writing-end : OneOf (1 ∷ 2 ∷ []) (tagOf the-type h) → (copy ≡ after m (rest list 0)) × Wrote out₀ at (left k m list 0) end out
   writing-end t =
       let e = under-end m list copy from (u .under) h hands t in
       let n : left k copy list from ≡ [] = ap (λ (os : List _). section k (records copy os)) (e .0) ∙ section-none k copy in
-      (omega (arith, u .ends, ap length n), e .1, sym (splice-nil out end) ∙ ap (splice out end) (sym n) ∙ u .leads)
+      (e .1, left-none n (u .remains))
 
   module _ (o : Op) (next : ℕ) (e : h ≡ Operation o next) (copy′ : List ℕ) (a : Answer) (q : copy′ ≡ step copy (opOf list o)) (b : answerOf copy′ list o a ≡ answer copy (opOf list o)) where
     -- the record of this turn, and those to come
@@ -80,17 +76,11 @@ module _ (k : Kind) (m list out₀ : List ℕ) (at : ℕ) (copy out : List ℕ) 
         (section-joined k (recordOf (answer copy (opOf list o))) (gathered (answers (step copy (opOf list o)) (rest list next))))
 
     pub turn-fits : end + length (spelt k copy′ list o a) ≤ length out
-    turn-fits =
-        omega (arith, u .ends, u .same, u .fits, ap length turned, length-append (spelt k copy′ list o a) (left k copy′ list next))
+    turn-fits = first-fits (spelt k copy′ list o a) (left k copy′ list next) (left-as turned (u .remains))
 
     pub writing-turn : (end′ : ℕ) (out′ : List ℕ) → Wrote out end (spelt k copy′ list o a) end′ out′ → Writing k m list out₀ at copy′ out′ end′ next
     writing-turn end′ out′ w =
-        let v = spelt k copy′ list o a in
-        let r = left k copy′ list next in
         record {
           under = under-turn m list copy from (u .under) h hands o next e copy′ q;
-          leads = rw (w .0, w .1) (splice-splice out v r end turn-fits ∙ ap (splice out end) (sym turned) ∙ u .leads);
-          ends = omega (arith, w .0, u .ends, ap length turned, length-append v r);
-          same = ap length (w .1) ∙ splice-length out end v turn-fits ∙ u .same;
-          fits = u .fits;
+          remains = left-next (spelt k copy′ list o a) (left k copy′ list next) (left-as turned (u .remains)) w;
         }

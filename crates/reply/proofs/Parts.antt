@@ -1,35 +1,30 @@
--- A reply put together: octets written one after another, the elements by their parts, and that each part fits where the reply does.
-use Prim.Native.Nat.{ℕ, _+_, _≤_}
-use native.Mathlib.Nat.{zero-add}
+-- A reply put together from the pieces of its kinds, and what a tally that fits says of them.
+use Prim.Native.Nat.{ℕ, _+_, _≤_, _<_}
 use native.Mathlib.Omega.{arith}
 use mathlib.Core.Path.{_≡_, refl, sym, ap, _∙_}
 use mathlib.Core.Logic.{_≢_}
-use mathlib.Core.Bool.{true, _||_}
-use mathlib.Core.List.{List, [], _∷_, _++_}
-use lib.ListN.{length, drop, length-append}
-use Rattle.meaning.specs.Octets.{be16, flat, nonempty, splice}
+use mathlib.Core.Bool.{Bool, true, _||_, cond}
+use mathlib.Core.List.{List, [], _∷_, _++_, append-nil, append-assoc}
+use lib.ListN.{length, drop}
+use lib.Dec.{eqb}
+use borrow.Author.Tests.{ne-eqb, leb-true}
+use Rattle.meaning.specs.Octets.{be16, flat, nonempty}
 use Rattle.meaning.specs.Operation.{parse, orNone}
 use Rattle.meaning.specs.Reply.{Held, Failed, Records, heldOctets, shortOctets, failedOctets, longOctets, readContents, setContents, allNames, element, anyRead, anySet, complete}
-use Rattle.meaning.proofs.Lists.{splice-length}
+use Rattle.meaning.proofs.Tests.{every-at}
 use Rattle.meaning.proofs.Kept.{after-sound}
-use Rattle.meaning.proofs.Records.{Fits, fits-opened, set-length, complete-length}
-use Rattle.octets.proofs.Splices.{then}
+use Rattle.meaning.proofs.Records.{Fits, fits-opened}
+use Rattle.records.specs.Writing.{Wrote}
 use Rattle.records.proofs.Lengths.{names-length}
+use Rattle.records.proofs.Pieces.{Left, left-start, left-as, first-fits, left-next}
 use Rattle.command.proofs.Sets.{long-of}
 use Rattle.tally.specs.declared.Tally.{Tally}
-use Rattle.tally.proofs.Lengths.{tally-fits}
+use Rattle.tally.specs.Tallies as tallies
+use Rattle.tally.specs.Tallies.{tallyOf, readOctets, setOctets, elementLength, replyLength, tallyFits}
+use Rattle.tally.proofs.Lengths.{tally-fits, any-read, any-set, read-octets, set-octets, values-count, readErrors-count, updates-count, updateErrors-count, longUpdates-count, longUpdates-octets}
 use Rattle.reply.specs.declared.Kind.{Kind}
 use Rattle.reply.specs.declared.Kind.the-variants.{Values, ReadErrors, Updates, UpdateErrors, LongUpdates}
-use Rattle.reply.specs.Sections.{section, counted, recordsOf, Wrote, Ready, Fitting}
-
--- ---- one after another
-
-pub wrote-then : (out : List ℕ) (at : ℕ) (a b : List ℕ) {e₁ e₂ : ℕ} {o₁ o₂ : List ℕ} → at + length a ≤ length out
-    → Wrote out at a e₁ o₁ → Wrote o₁ e₁ b e₂ o₂ → Wrote out at (a ++ b) e₂ o₂
-wrote-then out at a b {e₁} h x y = (omega (arith, x .0, y .0, length-append a b), then out a b at e₁ h (x .0) (x .1) (y .1))
-
-pub wrote-length : (out : List ℕ) (at : ℕ) (a : List ℕ) {e : ℕ} {o : List ℕ} → at + length a ≤ length out → Wrote out at a e o → length o ≡ length out
-wrote-length out at a h x = ap length (x .1) ∙ splice-length out at a h
+use Rattle.reply.specs.Sections.{section, order, countOf, opening, further, longLength, front, piece, recordsOf, Ready, Fitting}
 
 -- ---- what is asked of a reply
 
@@ -42,215 +37,164 @@ fits-of m list t n f = fits-opened n m (orNone (parse list)) (sym (tally-fits n 
 pub fitting-same : (m list : List ℕ) (t : Tally) (n k : ℕ) → n ≡ k → Fitting m list t n → Fitting m list t k
 fitting-same m list t n k e f = (f .0, f .1, rw e at (f .2))
 
--- the first part of what fits does, and after it the rest
-pub first-fits : (out : List ℕ) (at : ℕ) (a b : List ℕ) → at + length (a ++ b) ≤ length out → at + length a ≤ length out
-first-fits out at a b h = omega (arith, h, length-append a b)
+-- ---- a tally that fits has small numbers
 
-pub rest-fits : (out : List ℕ) (at : ℕ) (a b : List ℕ) {e : ℕ} {o : List ℕ} → at + length (a ++ b) ≤ length out → Wrote out at a e o → e + length b ≤ length o
-rest-fits out at a b h x = omega (arith, h, length-append a b, x .0, wrote-length out at a (first-fits out at a b h) x)
+module _ (n : ℕ) (t : Tally) (f : tallyFits n t ≡ true) where
+  in-limit : replyLength t ≤ 4096
+  unfolding tallyFits
+  in-limit = leb-true _ _ (every-at _ 1 f)
 
--- ---- a count and a kind's records
+  pub few-values : t .values .count ≤ 255
+  unfolding tallyFits
+  few-values = leb-true _ _ (every-at _ 2 f)
 
-none-flat : {A : Type 0} (f : A → List ℕ) (l : List A) → length l ≡ 0 → flat f l ≡ []
+  pub few-readErrors : t .«read_errors» .count ≤ 255
+  unfolding tallyFits
+  few-readErrors = leb-true _ _ (every-at _ 3 f)
+
+  pub few-updates : t .updates .count ≤ 255
+  unfolding tallyFits
+  few-updates = leb-true _ _ (every-at _ 4 f)
+
+  pub few-updateErrors : t .«update_errors» .count ≤ 255
+  unfolding tallyFits
+  few-updateErrors = leb-true _ _ (every-at _ 5 f)
+
+  pub read-small : tallies.anyRead t ≡ true → readOctets t < 65536
+  unfolding replyLength elementLength
+  read-small a =
+      let l : elementLength (tallies.anyRead t) (readOctets t) ≡ 3 + readOctets t = rw a refl in
+      omega (arith, in-limit, l)
+
+  pub set-small : tallies.anySet t ≡ true → setOctets t < 65536
+  unfolding replyLength elementLength
+  set-small a =
+      let l : elementLength (tallies.anySet t) (setOctets t) ≡ 3 + setOctets t = rw a refl in
+      omega (arith, in-limit, l)
+
+  pub long-small : t .«long_updates» .count ≢ 0 → t .«long_updates» .octets < 65536
+  unfolding setOctets tallies.longOctets
+  long-small h =
+      let l : tallies.longOctets (t .«long_updates») ≡ 2 + t .«long_updates» .octets = rw (ne-eqb _ 0 h) refl in
+      omega (arith, set-small (unfold tallies.anySet in rw (ne-eqb (t .updates .count + t .«update_errors» .count + t .«long_updates» .count) 0 (λ e. h (omega (arith, e)))) refl), l)
+
+-- ---- what stands before the records, kind by kind
+
+module _ (t : Tally) (k : Kind) where
+  pub front-values : (b : Bool) (n : ℕ) → k ≡ Values → b ≡ tallies.anyRead t → n ≡ readOctets t → front k t ≡ opening b 0x71 n (t .values .count)
+  unfolding front
+  front-values b n e f g = rw (e, f, g)
+
+  pub front-readErrors : (b : Bool) → k ≡ ReadErrors → b ≡ tallies.anyRead t → front k t ≡ further b (t .«read_errors» .count)
+  unfolding front
+  front-readErrors b e f = rw (e, f)
+
+  pub front-updates : (b : Bool) (n : ℕ) → k ≡ Updates → b ≡ tallies.anySet t → n ≡ setOctets t → front k t ≡ opening b 0x72 n (t .updates .count)
+  unfolding front
+  front-updates b n e f g = rw (e, f, g)
+
+  pub front-updateErrors : (b : Bool) → k ≡ UpdateErrors → b ≡ tallies.anySet t → front k t ≡ further b (t .«update_errors» .count)
+  unfolding front
+  front-updateErrors b e f = rw (e, f)
+
+  pub front-longUpdates : k ≡ LongUpdates → front k t ≡ longLength (t .«long_updates»)
+  unfolding front
+  front-longUpdates e = rw e
+
+-- ---- where there are no records of a kind
+
+none-flat : {A : Type 0} (f : A → List ℕ) (l : List A) → 0 + length l ≡ 0 → flat f l ≡ []
 unfolding flat
 none-flat f [] e = refl
 none-flat f (x ∷ l) e = absurd (omega (arith, e))
 
-pub counted-none : (k : Kind) (r : Records) → counted k r ≡ 0 → section k r ≡ []
-unfolding section counted
-counted-none Values r e = none-flat heldOctets (r .values) e
-counted-none ReadErrors r e = none-flat failedOctets (r .readErrors) e
-counted-none Updates r e = none-flat shortOctets (r .updates) e
-counted-none UpdateErrors r e = none-flat failedOctets (r .updateErrors) e
-counted-none LongUpdates r e = none-flat heldOctets (r .longUpdates) e
+pub count-none : (k : Kind) (r : Records) → countOf k (tallyOf r) ≡ 0 → section k r ≡ []
+unfolding section countOf tallyOf tallies.plus tallies.grown
+count-none Values r e = none-flat heldOctets (r .values) e
+count-none ReadErrors r e = none-flat failedOctets (r .readErrors) e
+count-none Updates r e = none-flat shortOctets (r .updates) e
+count-none UpdateErrors r e = none-flat failedOctets (r .updateErrors) e
+count-none LongUpdates r e = none-flat heldOctets (r .longUpdates) e
 
-abbrev pub countedSection : Kind → Records → List ℕ
-countedSection k r = counted k r ∷ section k r
-
--- ---- the elements by their parts
+-- ---- the elements by their pieces
 
 pub names-parts : element 0x70 true allNames ≡ (0x70 ∷ be16 38) ++ allNames
 unfolding element
 names-parts = rw names-length
 
+long-parts : (l : List Held) → longOctets l ≡ cond (eqb (length l) 0) [] (be16 (length (flat heldOctets l))) ++ flat heldOctets l
+unfolding longOctets flat
+long-parts [] = refl
+long-parts (h ∷ l) = rw (ne-eqb (length (h ∷ l)) 0 (λ e. absurd (omega (arith, e)))) refl
+
 module _ (r : Records) where
-  pub read-parts : (n : ℕ) → anyRead r ≡ true → n ≡ length (readContents r)
-      → element 0x71 (anyRead r) (readContents r) ≡ (0x71 ∷ be16 n) ++ (countedSection Values r ++ countedSection ReadErrors r)
-  unfolding element readContents section counted
-  read-parts n a e = rw (a, e)
-
-  pub set-parts : (n : ℕ) → anySet r ≡ true → n ≡ length (setContents r)
-      → element 0x72 (anySet r) (setContents r) ≡ (0x72 ∷ be16 n) ++ (countedSection Updates r ++ (countedSection UpdateErrors r ++ longOctets (r .longUpdates)))
-  unfolding element setContents section counted
-  set-parts n a e = rw (a, e)
-
-  pub long-parts : (n : ℕ) → length (r .longUpdates) ≢ 0 → n ≡ length (flat heldOctets (r .longUpdates)) → longOctets (r .longUpdates) ≡ be16 n ++ section LongUpdates r
-  unfolding section longOctets
-  long-parts n h e = rw e (go (r .longUpdates) h)
+  read-pieces : element 0x71 (anyRead r) (readContents r) ≡ piece r Values ++ piece r ReadErrors
+  unfolding element readContents section front opening further be16 flat
+  read-pieces = rw (any-read r, read-octets r, values-count r, readErrors-count r) (go (r .values) (r .readErrors))
     where
-      go : (l : List Held) → length l ≢ 0 → longOctets l ≡ be16 (length (flat heldOctets l)) ++ flat heldOctets l
-      go [] h = absurd (h refl)
-      go (x ∷ l) h = refl
+      go : (v : List Held) (e : List Failed)
+          → let c = length v ∷ flat heldOctets v ++ (length e ∷ flat failedOctets e) in
+          let b = nonempty v || nonempty e in
+          element 0x71 b c ≡ (opening b 0x71 (length c) (length v) ++ flat heldOctets v) ++ (further b (length e) ++ flat failedOctets e)
+      go [] [] = refl
+      go [] (x ∷ e) = refl
+      go (h ∷ v) e = refl
 
-  pub long-none : length (r .longUpdates) ≡ 0 → longOctets (r .longUpdates) ≡ []
-  unfolding longOctets
-  long-none e = go (r .longUpdates) e
+  set-pieces : element 0x72 (anySet r) (setContents r) ≡ piece r Updates ++ (piece r UpdateErrors ++ piece r LongUpdates)
+  unfolding element setContents section front opening further longLength be16 flat
+  set-pieces =
+      rw (any-set r, set-octets r, updates-count r, updateErrors-count r, longUpdates-count r, longUpdates-octets r)
+      (go (r .updates) (r .updateErrors) (r .longUpdates))
     where
-      go : (l : List Held) → length l ≡ 0 → longOctets l ≡ []
-      go [] e = refl
-      go (x ∷ l) e = absurd (omega (arith, e))
+      go : (u : List Held) (f : List Failed) (l : List Held)
+          → let c = length u ∷ flat shortOctets u ++ (length f ∷ flat failedOctets f ++ longOctets l) in
+          let b = nonempty u || (nonempty f || nonempty l) in
+          element 0x72 b c
+          ≡ (opening b 0x72 (length c) (length u) ++ flat shortOctets u)
+          ++ ((further b (length f) ++ flat failedOctets f)
+          ++ (cond (eqb (length l) 0) [] (be16 (length (flat heldOctets l))) ++ flat heldOctets l))
+      go [] [] [] = refl
+      go [] [] (x ∷ l) = rw (long-parts (x ∷ l)) refl
+      go [] (x ∷ f) l = rw (long-parts l) refl
+      go (h ∷ u) f l = rw (long-parts l) refl
 
-  -- ---- how long the elements are in a reply that fits
-
-  module _ (n : ℕ) (f : Fits n r) where
-    pub read-small : anyRead r ≡ true → length (readContents r) ≤ 4096
-    unfolding element be16
-    read-small a =
-        let l : length (element 0x71 (anyRead r) (readContents r)) ≡ 3 + length (readContents r) = rw a (omega arith) in
-        omega (arith, f .inLimit, complete-length r, l)
-
-    pub set-small : anySet r ≡ true → length (setContents r) ≤ 4096
-    unfolding element be16
-    set-small a =
-        let l : length (element 0x72 (anySet r) (setContents r)) ≡ 3 + length (setContents r) = rw a (omega arith) in
-        omega (arith, f .inLimit, complete-length r, l)
-
-    pub long-small : length (r .longUpdates) ≢ 0 → length (flat heldOctets (r .longUpdates)) ≤ 4096
-    unfolding be16 section
-    long-small h =
-        let l = ap length (long-parts (length (flat heldOctets (r .longUpdates))) h refl) in
-        omega (arith, set-small (asked (r .updates) (r .updateErrors) (r .longUpdates) h), set-length r, l)
-      where
-        asked : (u : List Held) (f : List Failed) (g : List Held) → length g ≢ 0 → (nonempty u || (nonempty f || nonempty g)) ≡ true
-        asked u f [] q = absurd (q refl)
-        asked [] [] (x ∷ g) q = refl
-        asked [] (y ∷ f) (x ∷ g) q = refl
-        asked (y ∷ u) f (x ∷ g) q = refl
-
--- ---- an element written part by part: each part fits what is left of the room, and the last completes it
-
-module _ (r : Records) (out : List ℕ) (at n : ℕ) (room : at + length (element 0x71 (anyRead r) (readContents r)) ≤ length out)
-    (any : anyRead r ≡ true) (long : n ≡ length (readContents r)) where
-  abbrev readHead : List ℕ
-  readHead = 0x71 ∷ be16 n
-
-  abbrev readRest : List ℕ
-  readRest = countedSection Values r ++ countedSection ReadErrors r
-
-  inRoom : at + length (readHead ++ readRest) ≤ length out
-  inRoom = rw (read-parts r n any long) at room
-
-  pub reads-head : at + 3 ≤ length out
-  unfolding be16
-  reads-head = first-fits out at readHead readRest inRoom
-
-  module _ {e₁ : ℕ} {o₁ : List ℕ} (w₁ : Wrote out at readHead e₁ o₁) where
-    left : e₁ + length readRest ≤ length o₁
-    left = rest-fits out at readHead readRest inRoom w₁
-
-    pub reads-values : e₁ + length (countedSection Values r) ≤ length o₁
-    reads-values = first-fits o₁ e₁ (countedSection Values r) (countedSection ReadErrors r) left
-
-    module _ {e₂ : ℕ} {o₂ : List ℕ} (w₂ : Wrote o₁ e₁ (countedSection Values r) e₂ o₂) where
-      pub reads-errors : e₂ + length (countedSection ReadErrors r) ≤ length o₂
-      reads-errors = rest-fits o₁ e₁ (countedSection Values r) (countedSection ReadErrors r) left w₂
-
-      pub reads-wrote : {e₃ : ℕ} {o₃ : List ℕ} → Wrote o₂ e₂ (countedSection ReadErrors r) e₃ o₃ → Wrote out at (element 0x71 (anyRead r) (readContents r)) e₃ o₃
-      reads-wrote w₃ =
-          rw (read-parts r n any long)
-          (wrote-then out at readHead readRest (first-fits out at readHead readRest inRoom) w₁
-          (wrote-then o₁ e₁ (countedSection Values r) (countedSection ReadErrors r) reads-values w₂ w₃))
-
-module _ (r : Records) (out : List ℕ) (at n : ℕ) (room : at + length (element 0x72 (anySet r) (setContents r)) ≤ length out)
-    (any : anySet r ≡ true) (long : n ≡ length (setContents r)) where
-  abbrev setHead : List ℕ
-  setHead = 0x72 ∷ be16 n
-
-  abbrev setErrors : List ℕ
-  setErrors = countedSection UpdateErrors r ++ longOctets (r .longUpdates)
-
-  abbrev setRest : List ℕ
-  setRest = countedSection Updates r ++ setErrors
-
-  setsInRoom : at + length (setHead ++ setRest) ≤ length out
-  setsInRoom = rw (set-parts r n any long) at room
-
-  pub sets-head : at + 3 ≤ length out
-  unfolding be16
-  sets-head = first-fits out at setHead setRest setsInRoom
-
-  module _ {e₁ : ℕ} {o₁ : List ℕ} (w₁ : Wrote out at setHead e₁ o₁) where
-    setsLeft : e₁ + length setRest ≤ length o₁
-    setsLeft = rest-fits out at setHead setRest setsInRoom w₁
-
-    pub sets-updates : e₁ + length (countedSection Updates r) ≤ length o₁
-    sets-updates = first-fits o₁ e₁ (countedSection Updates r) setErrors setsLeft
-
-    module _ {e₂ : ℕ} {o₂ : List ℕ} (w₂ : Wrote o₁ e₁ (countedSection Updates r) e₂ o₂) where
-      errorsLeft : e₂ + length setErrors ≤ length o₂
-      errorsLeft = rest-fits o₁ e₁ (countedSection Updates r) setErrors setsLeft w₂
-
-      pub sets-errors : e₂ + length (countedSection UpdateErrors r) ≤ length o₂
-      sets-errors = first-fits o₂ e₂ (countedSection UpdateErrors r) (longOctets (r .longUpdates)) errorsLeft
-
-      module _ {e₃ : ℕ} {o₃ : List ℕ} (w₃ : Wrote o₂ e₂ (countedSection UpdateErrors r) e₃ o₃) where
-        pub sets-longs : e₃ + length (longOctets (r .longUpdates)) ≤ length o₃
-        sets-longs = rest-fits o₂ e₂ (countedSection UpdateErrors r) (longOctets (r .longUpdates)) errorsLeft w₃
-
-        pub sets-wrote : {e₄ : ℕ} {o₄ : List ℕ} → Wrote o₃ e₃ (longOctets (r .longUpdates)) e₄ o₄ → Wrote out at (element 0x72 (anySet r) (setContents r)) e₄ o₄
-        sets-wrote w₄ =
-            rw (set-parts r n any long)
-            (wrote-then out at setHead setRest (first-fits out at setHead setRest setsInRoom) w₁
-            (wrote-then o₁ e₁ (countedSection Updates r) setErrors sets-updates w₂
-            (wrote-then o₂ e₂ (countedSection UpdateErrors r) (longOctets (r .longUpdates)) sets-errors w₃ w₄)))
-
--- ---- the whole reply, element by element
-
-at-start : (out v : List ℕ) → splice out 0 v ≡ v ++ drop (length v) out
-unfolding splice
-at-start out v = rw (zero-add (length v))
-
-module _ (r : Records) (out : List ℕ) (room : length (complete r) ≤ length out) where
-  abbrev names : List ℕ
+  abbrev pub names : List ℕ
   names = element 0x70 (r .capabilities) allNames
 
-  abbrev reads : List ℕ
-  reads = element 0x71 (anyRead r) (readContents r)
+  -- the pieces of the kinds from a place of their order on
+  abbrev pub pieces : ℕ → List ℕ
+  pieces i = flat (piece r) (drop i order)
 
-  abbrev sets : List ℕ
-  sets = element 0x72 (anySet r) (setContents r)
+  whole-pieces : complete r ≡ (2 ∷ []) ++ (names ++ pieces 0)
+  unfolding complete flat
+  whole-pieces =
+      rw (read-pieces, set-pieces, append-nil (piece r LongUpdates))
+      (ap (λ (w : List ℕ). 2 ∷ names ++ w) (append-assoc (piece r Values) (piece r ReadErrors) (piece r Updates ++ (piece r UpdateErrors ++ piece r LongUpdates))))
 
-  whole-parts : complete r ≡ (2 ∷ []) ++ (names ++ (reads ++ sets))
-  unfolding complete
-  whole-parts = refl
+  -- the next kind and those after it; none after the fifth
+  pub next-piece : (i : ℕ) (k : Kind) → drop i order ≡ k ∷ drop (i + 1) order → pieces i ≡ piece r k ++ pieces (i + 1)
+  unfolding flat
+  next-piece i k e = ap (flat (piece r)) e
 
-  whole-fits : 0 + length ((2 ∷ []) ++ (names ++ (reads ++ sets))) ≤ length out
-  whole-fits = omega (arith, room, ap length whole-parts)
+  pub no-piece : (i : ℕ) → i ≤ 5 → 5 ≤ i → pieces i ≡ []
+  unfolding flat
+  no-piece i a b =
+      let e : i ≡ 5 = omega (arith, a, b) in
+      ap pieces e
 
-  pub whole-type : 0 + 1 ≤ length out
-  whole-type = first-fits out 0 (2 ∷ []) (names ++ (reads ++ sets)) whole-fits
+module _ (r : Records) (out : List ℕ) (room : length (complete r) ≤ length out) where
+  whole-left : Left out 0 (complete r) out 0 ((2 ∷ []) ++ (names r ++ pieces r 0))
+  whole-left = left-as (whole-pieces r) (left-start out 0 (complete r) (omega (arith, room)))
+
+  pub type-fits : 0 + 1 ≤ length out
+  type-fits = first-fits (2 ∷ []) (names r ++ pieces r 0) whole-left
 
   module _ {e₁ : ℕ} {o₁ : List ℕ} (w₁ : Wrote out 0 (2 ∷ []) e₁ o₁) where
-    afterType : e₁ + length (names ++ (reads ++ sets)) ≤ length o₁
-    afterType = rest-fits out 0 (2 ∷ []) (names ++ (reads ++ sets)) whole-fits w₁
+    after-type : Left out 0 (complete r) o₁ e₁ (names r ++ pieces r 0)
+    after-type = left-next (2 ∷ []) (names r ++ pieces r 0) whole-left w₁
 
-    pub whole-names : e₁ + length names ≤ length o₁
-    whole-names = first-fits o₁ e₁ names (reads ++ sets) afterType
+    pub names-fit : e₁ + length (names r) ≤ length o₁
+    names-fit = first-fits (names r) (pieces r 0) after-type
 
-    module _ {e₂ : ℕ} {o₂ : List ℕ} (w₂ : Wrote o₁ e₁ names e₂ o₂) where
-      afterNames : e₂ + length (reads ++ sets) ≤ length o₂
-      afterNames = rest-fits o₁ e₁ names (reads ++ sets) afterType w₂
-
-      pub whole-reads : e₂ + length reads ≤ length o₂
-      whole-reads = first-fits o₂ e₂ reads sets afterNames
-
-      module _ {e₃ : ℕ} {o₃ : List ℕ} (w₃ : Wrote o₂ e₂ reads e₃ o₃) where
-        pub whole-sets : e₃ + length sets ≤ length o₃
-        whole-sets = rest-fits o₂ e₂ reads sets afterNames w₃
-
-        pub whole-wrote : {e₄ : ℕ} {o₄ : List ℕ} → Wrote o₃ e₃ sets e₄ o₄ → o₄ ≡ complete r ++ drop (length (complete r)) out
-        whole-wrote w₄ =
-            let w =
-            wrote-then out 0 (2 ∷ []) (names ++ (reads ++ sets)) (omega (arith, whole-type)) w₁
-            (wrote-then o₁ e₁ names (reads ++ sets) whole-names w₂ (wrote-then o₂ e₂ reads sets whole-reads w₃ w₄)) in
-            w .1 ∙ ap (splice out 0) (sym whole-parts) ∙ at-start out (complete r)
+    pub after-names : {e₂ : ℕ} {o₂ : List ℕ} → Wrote o₁ e₁ (names r) e₂ o₂ → Left out 0 (complete r) o₂ e₂ (pieces r 0)
+    after-names w₂ = left-next (names r) (pieces r 0) after-type w₂

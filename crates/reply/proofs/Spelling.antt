@@ -1,20 +1,18 @@
 -- The record of one answer, by kind: what is written where the answer is of the kind asked for, and that nothing is where it is not.
 use Prim.Native.Nat.{ℕ, _+_, _≤_, _<_}
-use native.Mathlib.Nat.{add-zero}
 use native.Mathlib.Omega.{arith}
 use types.Run.{OneOf, miss}
-use mathlib.Core.Path.{_≡_, refl, sym}
+use mathlib.Core.Path.{_≡_, refl}
 use mathlib.Core.Bool.{Bool, true, false, cond}
 use mathlib.Core.List.{List, [], _∷_, append-nil}
 use lib.ListN.{length}
 use lib.Dec.{leb}
 use denote.Enum.Declared.{tagOf}
 use borrow.Author.Tests.{le-leb, lt-leb}
-use Rattle.meaning.specs.Octets.{part, flat, splice}
+use Rattle.meaning.specs.Octets.{part, flat}
 use Rattle.meaning.specs.Step.{shown}
 use Rattle.meaning.specs.Reply.{kinds, held, recordOf, heldOctets, shortOctets, failedOctets}
 use Rattle.meaning.proofs.Lists.{length-part}
-use Rattle.octets.proofs.Splices.{splice-nil}
 use Rattle.operation.specs.declared.Op.{Op}
 use Rattle.operation.specs.Handing.{nameOf, fromOf, sizeOf}
 use Rattle.command.specs.declared.Answer.{Answer}
@@ -23,17 +21,11 @@ use Rattle.command.proofs.Answer.{the-type}
 use Rattle.command.specs.Answers.{answerOf}
 use Rattle.reply.specs.declared.Kind.{Kind}
 use Rattle.reply.specs.declared.Kind.the-variants.{Values, ReadErrors, Updates, UpdateErrors, LongUpdates}
-use Rattle.reply.specs.Sections.{section, Wrote}
+use Rattle.reply.specs.Sections.{section}
 
 -- the octets of the record of an answer, where it is of a kind
 abbrev pub spelt : Kind → List ℕ → List ℕ → Op → Answer → List ℕ
 spelt k m s o a = section k (recordOf (answerOf m s o a))
-
-pub wrote-none : (out : List ℕ) (at : ℕ) {w : List ℕ} → w ≡ [] → Wrote out at w at out
-wrote-none out at e = rw (e, splice-nil out at) (sym (add-zero at), refl)
-
-pub wrote-this : (out : List ℕ) (at : ℕ) {w v after : List ℕ} {end : ℕ} → w ≡ v → end ≡ at + length v → after ≡ splice out at v → Wrote out at w end after
-wrote-this out at e l q = rw e (l, q)
 
 one : {A : Type 0} (f : A → List ℕ) (x : A) → flat f (x ∷ []) ≡ f x
 unfolding flat

@@ -1,17 +1,19 @@
--- A reply by its sections: the octets and the number of the records of one kind, and what writing says of a room.
+-- A reply by its kinds of record: their octets, how many there are and what stands before them, and what writing says of a room.
 use Prim.Native.Nat.{ℕ, _+_, _≤_}
 use mathlib.Core.Path.{_≡_}
-use mathlib.Core.Bool.{Bool, true}
-use mathlib.Core.List.{List}
+use mathlib.Core.Bool.{Bool, true, cond}
+use mathlib.Core.List.{List, [], _∷_, _++_}
 use lib.ListN.{length}
-use Rattle.meaning.specs.Octets.{flat, splice}
+use lib.Dec.{eqb}
+use Rattle.meaning.specs.Octets.{be16, flat}
 use Rattle.meaning.specs.Memory.{sound}
 use Rattle.meaning.specs.Operation.{parse, isSome, orNone}
 use Rattle.meaning.specs.Step.{after}
 use Rattle.meaning.specs.Reply.{Records, heldOctets, shortOctets, failedOctets}
 use Rattle.meaning.specs.Calls.{records}
+use Rattle.tally.specs.declared.Count.{Count}
 use Rattle.tally.specs.declared.Tally.{Tally}
-use Rattle.tally.specs.Tallies.{tallyOf, tallyFits, Below}
+use Rattle.tally.specs.Tallies.{tallyOf, readOctets, setOctets, anyRead, anySet, tallyFits, Below}
 use Rattle.reply.specs.declared.Kind.{Kind}
 use Rattle.reply.specs.declared.Kind.the-variants.{Values, ReadErrors, Updates, UpdateErrors, LongUpdates}
 
@@ -22,20 +24,47 @@ section Updates r = flat shortOctets (r .updates)
 section UpdateErrors r = flat failedOctets (r .updateErrors)
 section LongUpdates r = flat heldOctets (r .longUpdates)
 
-unfoldable pub counted : Kind → Records → ℕ
-counted Values r = length (r .values)
-counted ReadErrors r = length (r .readErrors)
-counted Updates r = length (r .updates)
-counted UpdateErrors r = length (r .updateErrors)
-counted LongUpdates r = length (r .longUpdates)
+-- the kinds in the order of a reply
+abbrev pub order : List Kind
+order = Values ∷ ReadErrors ∷ Updates ∷ UpdateErrors ∷ LongUpdates ∷ []
+
+-- ---- what stands before a kind's records, by the tally
+
+unfoldable pub countOf : Kind → Tally → ℕ
+countOf Values t = t .values .count
+countOf ReadErrors t = t .«read_errors» .count
+countOf Updates t = t .updates .count
+countOf UpdateErrors t = t .«update_errors» .count
+countOf LongUpdates t = t .«long_updates» .count
+
+-- an element's identifier and length (2), and the count of its first records
+unfoldable pub opening : Bool → ℕ → ℕ → ℕ → List ℕ
+opening b id n count = cond b (id ∷ be16 n ++ (count ∷ [])) []
+
+-- the count of further records
+unfoldable pub further : Bool → ℕ → List ℕ
+further b count = cond b (count ∷ []) []
+
+-- the length (2) of the long updates, only if there are any
+unfoldable pub longLength : Count → List ℕ
+longLength c = cond (eqb (c .count) 0) [] (be16 (c .octets))
+
+unfoldable pub front : Kind → Tally → List ℕ
+front Values t = opening (anyRead t) 0x71 (readOctets t) (t .values .count)
+front ReadErrors t = further (anyRead t) (t .«read_errors» .count)
+front Updates t = opening (anySet t) 0x72 (setOctets t) (t .updates .count)
+front UpdateErrors t = further (anySet t) (t .«update_errors» .count)
+front LongUpdates t = longLength (t .«long_updates»)
+
+-- a kind's records with what stands before them
+abbrev pub piece : Records → Kind → List ℕ
+piece r k = front k (tallyOf r) ++ section k r
+
+-- ---- what the code asks and says
 
 -- the records of a list of operations, carried out on m
 abbrev pub recordsOf : List ℕ → List ℕ → Records
 recordsOf m list = records m (orNone (parse list))
-
--- octets written at a place: the place after them, and the room
-abbrev pub Wrote : List ℕ → ℕ → List ℕ → ℕ → List ℕ → Type 0
-Wrote out at w end out′ = (end ≡ at + length w) × (out′ ≡ splice out at w)
 
 -- sound memory, a whole list, and the copy that its operations have left
 abbrev pub Ready : List ℕ → List ℕ → List ℕ → Type 0

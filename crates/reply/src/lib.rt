@@ -2,6 +2,7 @@
 // there is, the working copy is filled anew and the operations run again, so no record is kept anywhere but in the room.
 ghost use Prim.Native.Nat.{_+_, _≤_, _<_};
 ghost use mathlib.Core.Path.{_≡_};
+ghost use mathlib.Core.Logic.{_≢_};
 ghost use mathlib.Core.Bool.{true};
 ghost use mathlib.Core.List.{_∷_, _++_};
 ghost use lib.ListN.{length, drop};
@@ -9,13 +10,16 @@ ghost use Rattle.meaning.specs.Table.{memoryLength, entryCount};
 ghost use Rattle.meaning.specs.Memory.{sound};
 ghost use Rattle.meaning.specs.Operation.{parse, isSome, orNone};
 ghost use Rattle.meaning.specs.Step.{shown, after};
-ghost use Rattle.meaning.specs.Reply.{recordOf, heldOctets, longOctets, readContents, setContents, allNames, element, anyRead, anySet, complete};
+ghost use Rattle.meaning.specs.Reply.{recordOf, heldOctets, allNames, element, complete};
 ghost use Rattle.operation.specs.Handing.{Inside};
+ghost use Rattle.records.specs.Writing.{Wrote};
 ghost use Rattle.command.specs.Answers.{answerOf, Told};
-ghost use Rattle.reply.specs.Sections.{section, counted, recordsOf, Wrote, Ready, Fitting};
+ghost use Rattle.tally.specs.Tallies.{tallyFits, Below};
+ghost use Rattle.reply.specs.Sections.{section, order, countOf, opening, further, longLength, front, piece, recordsOf, Ready, Fitting};
 use command::Answer;
 use operation::Handed;
 use operation::Op;
+use tally::Count;
 use tally::Tally;
 
 // The kinds of record that a reply holds, in its order.
@@ -50,18 +54,14 @@ fn spell(m: &[u8], list: &[u8], op: Op, a: Answer, kind: Kind, out: &mut [u8], a
     let from = operation::from_of(op);
     let size = operation::size_of(op);
     match kind {
-        Kind::Values => {
-            let Answer::Value(k) = a else {
-                return at;
-            };
-            write_value(m, k, name, out, at)
-        }
-        Kind::ReadErrors => {
-            let Answer::ReadError(cause) = a else {
-                return at;
-            };
-            records::write_failed(out, at, name, cause)
-        }
+        Kind::Values => match a {
+            Answer::Value(k) => write_value(m, k, name, out, at),
+            _ => at,
+        },
+        Kind::ReadErrors => match a {
+            Answer::ReadError(cause) => records::write_failed(out, at, name, cause),
+            _ => at,
+        },
         Kind::Updates => {
             let Answer::Update = a else {
                 return at;
@@ -71,12 +71,10 @@ fn spell(m: &[u8], list: &[u8], op: Op, a: Answer, kind: Kind, out: &mut [u8], a
             }
             records::write_short(out, at, name, &list[from..from + size])
         }
-        Kind::UpdateErrors => {
-            let Answer::UpdateError(cause) = a else {
-                return at;
-            };
-            records::write_failed(out, at, name, cause)
-        }
+        Kind::UpdateErrors => match a {
+            Answer::UpdateError(cause) => records::write_failed(out, at, name, cause),
+            _ => at,
+        },
         Kind::LongUpdates => {
             let Answer::Update = a else {
                 return at;
@@ -108,74 +106,98 @@ fn write_section(list: &[u8], kind: Kind, copy: &mut [u8], out: &mut [u8], at: u
     }
 }
 
-// The count of a kind's records, and the records where there are any.
-fn write_counted(
-    m: &[u8],
-    list: &[u8],
-    kind: Kind,
-    count: usize,
-    copy: &mut [u8],
-    out: &mut [u8],
-    at: usize,
-) -> usize
-    requires { ⌜ Ready (now m) (now list) (now copy) × (count ≡ counted kind (recordsOf (now m) (now list))) × (count ≤ 255) × (at + length (count ∷ section kind (recordsOf (now m) (now list))) ≤ length (now out)) ⌝ }
-    ensures { λ _. ⌜ now (copy .exit) ≡ after (now (m .entry)) (orNone (parse (now (list .entry)))) ⌝ }
-    ensures { λ r. ⌜ Wrote (now (out .entry)) at (count ∷ section kind (recordsOf (now (m .entry)) (now (list .entry)))) r (now (out .exit)) ⌝ }
+// The head of an element, where it is needed, and the count of its first records.
+fn write_opening(needed: bool, id: u8, n: usize, count: usize, out: &mut [u8], at: usize) -> usize
+    requires { ⌜ (needed ≡ true → n < 65536) × (count ≤ 255) × (at + length (opening needed id n count) ≤ length (now out)) ⌝ }
+    ensures { λ r. ⌜ Wrote (now (out .entry)) at (opening needed id n count) r (now (out .exit)) ⌝ }
 {
-    let start = records::write_count(out, at, count);
-    if count == 0 {
-        return start;
-    }
-    bytes::copy(m, copy);
-    write_section(list, kind, copy, out, start)
-}
-
-// Element 71, where a read was asked.
-fn write_reads(m: &[u8], list: &[u8], t: Tally, copy: &mut [u8], out: &mut [u8], at: usize) -> usize
-    requires { ⌜ Ready (now m) (now list) (now copy) × Fitting (now m) (now list) t (length (now out)) × (at + length (element 0x71 (anyRead (recordsOf (now m) (now list))) (readContents (recordsOf (now m) (now list)))) ≤ length (now out)) ⌝ }
-    ensures { λ _. ⌜ now (copy .exit) ≡ after (now (m .entry)) (orNone (parse (now (list .entry)))) ⌝ }
-    ensures { λ r. ⌜ Wrote (now (out .entry)) at (element 0x71 (anyRead (recordsOf (now (m .entry)) (now (list .entry)))) (readContents (recordsOf (now (m .entry)) (now (list .entry))))) r (now (out .exit)) ⌝ }
-{
-    if !tally::any_read(t) {
+    if !needed {
         return at;
     }
-    let first = records::write_head(out, at, 0x71, tally::read_octets(t));
-    let values = t.values.count;
-    let second = write_counted(m, list, Kind::Values, values, copy, out, first);
-    let errors = t.read_errors.count;
-    write_counted(m, list, Kind::ReadErrors, errors, copy, out, second)
+    let first = records::write_head(out, at, id, n);
+    records::write_count(out, first, count)
 }
 
-// The long updates and their length, where there are any.
-fn write_longs(m: &[u8], list: &[u8], t: Tally, copy: &mut [u8], out: &mut [u8], at: usize) -> usize
-    requires { ⌜ Ready (now m) (now list) (now copy) × Fitting (now m) (now list) t (length (now out)) × (at + length (longOctets (recordsOf (now m) (now list) .longUpdates)) ≤ length (now out)) ⌝ }
-    ensures { λ _. ⌜ now (copy .exit) ≡ after (now (m .entry)) (orNone (parse (now (list .entry)))) ⌝ }
-    ensures { λ r. ⌜ Wrote (now (out .entry)) at (longOctets (recordsOf (now (m .entry)) (now (list .entry)) .longUpdates)) r (now (out .exit)) ⌝ }
+// The count of records further on in an element, where it is needed.
+fn write_further(needed: bool, count: usize, out: &mut [u8], at: usize) -> usize
+    requires { ⌜ (count ≤ 255) × (at + length (further needed count) ≤ length (now out)) ⌝ }
+    ensures { λ r. ⌜ Wrote (now (out .entry)) at (further needed count) r (now (out .exit)) ⌝ }
 {
-    let longs = t.long_updates;
+    if !needed {
+        return at;
+    }
+    records::write_count(out, at, count)
+}
+
+// The octets of the long updates, where there are any.
+fn write_longs(longs: Count, out: &mut [u8], at: usize) -> usize
+    requires { ⌜ (longs .count ≢ 0 → longs .octets < 65536) × (at + length (longLength longs) ≤ length (now out)) ⌝ }
+    ensures { λ r. ⌜ Wrote (now (out .entry)) at (longLength longs) r (now (out .exit)) ⌝ }
+{
     if longs.count == 0 {
         return at;
     }
     octets::put16(out, at, longs.octets);
-    bytes::copy(m, copy);
-    write_section(list, Kind::LongUpdates, copy, out, at + 2)
+    at + 2
 }
 
-// Element 72, where a set was asked.
-fn write_sets(m: &[u8], list: &[u8], t: Tally, copy: &mut [u8], out: &mut [u8], at: usize) -> usize
-    requires { ⌜ Ready (now m) (now list) (now copy) × Fitting (now m) (now list) t (length (now out)) × (at + length (element 0x72 (anySet (recordsOf (now m) (now list))) (setContents (recordsOf (now m) (now list)))) ≤ length (now out)) ⌝ }
-    ensures { λ _. ⌜ now (copy .exit) ≡ after (now (m .entry)) (orNone (parse (now (list .entry)))) ⌝ }
-    ensures { λ r. ⌜ Wrote (now (out .entry)) at (element 0x72 (anySet (recordsOf (now (m .entry)) (now (list .entry)))) (setContents (recordsOf (now (m .entry)) (now (list .entry))))) r (now (out .exit)) ⌝ }
+// What stands before the records of a kind.
+fn write_front(t: Tally, kind: Kind, out: &mut [u8], at: usize) -> usize
+    requires { ⌜ Below 16777216 t × (tallyFits (length (now out)) t ≡ true) × (at + length (front kind t) ≤ length (now out)) ⌝ }
+    ensures { λ r. ⌜ Wrote (now (out .entry)) at (front kind t) r (now (out .exit)) ⌝ }
 {
-    if !tally::any_set(t) {
-        return at;
+    let reads = tally::any_read(t);
+    let sets = tally::any_set(t);
+    match kind {
+        Kind::Values => {
+            let n = tally::read_octets(t);
+            let count = t.values.count;
+            write_opening(reads, 0x71, n, count, out, at)
+        }
+        Kind::ReadErrors => write_further(reads, t.read_errors.count, out, at),
+        Kind::Updates => {
+            let n = tally::set_octets(t);
+            let count = t.updates.count;
+            write_opening(sets, 0x72, n, count, out, at)
+        }
+        Kind::UpdateErrors => write_further(sets, t.update_errors.count, out, at),
+        Kind::LongUpdates => write_longs(t.long_updates, out, at),
     }
-    let first = records::write_head(out, at, 0x72, tally::set_octets(t));
-    let updates = t.updates.count;
-    let second = write_counted(m, list, Kind::Updates, updates, copy, out, first);
-    let errors = t.update_errors.count;
-    let third = write_counted(m, list, Kind::UpdateErrors, errors, copy, out, second);
-    write_longs(m, list, t, copy, out, third)
+}
+
+// How many records of a kind there are.
+fn count_of(t: Tally, kind: Kind) -> usize
+    ensures { λ r. ⌜ r ≡ countOf kind t ⌝ }
+{
+    match kind {
+        Kind::Values => t.values.count,
+        Kind::ReadErrors => t.read_errors.count,
+        Kind::Updates => t.updates.count,
+        Kind::UpdateErrors => t.update_errors.count,
+        Kind::LongUpdates => t.long_updates.count,
+    }
+}
+
+// The records of a kind and what stands before them. The copy is filled anew where there are any.
+fn write_kind(
+    m: &[u8],
+    list: &[u8],
+    t: Tally,
+    kind: Kind,
+    copy: &mut [u8],
+    out: &mut [u8],
+    at: usize,
+) -> usize
+    requires { ⌜ Ready (now m) (now list) (now copy) × Fitting (now m) (now list) t (length (now out)) × (at + length (piece (recordsOf (now m) (now list)) kind) ≤ length (now out)) ⌝ }
+    ensures { λ _. ⌜ now (copy .exit) ≡ after (now (m .entry)) (orNone (parse (now (list .entry)))) ⌝ }
+    ensures { λ r. ⌜ Wrote (now (out .entry)) at (piece (recordsOf (now (m .entry)) (now (list .entry))) kind) r (now (out .exit)) ⌝ }
+{
+    let start = write_front(t, kind, out, at);
+    if count_of(t, kind) == 0 {
+        return start;
+    }
+    bytes::copy(m, copy);
+    write_section(list, kind, copy, out, start)
 }
 
 // Element 70, where the names are asked.
@@ -190,7 +212,22 @@ fn write_capabilities(needed: bool, out: &mut [u8], at: usize) -> usize
     records::write_names(out, first)
 }
 
-// The whole reply at the start of a room that it fits. The copy holds afterwards what the operations leave.
+// The kinds one after another, as a reply has them.
+fn kind_at(i: usize) -> Kind
+    requires { ⌜ i < 5 ⌝ }
+    ensures { λ r. ⌜ drop i order ≡ r ∷ drop (i + 1) order ⌝ }
+{
+    match i {
+        0 => Kind::Values,
+        1 => Kind::ReadErrors,
+        2 => Kind::Updates,
+        3 => Kind::UpdateErrors,
+        _ => Kind::LongUpdates,
+    }
+}
+
+// The whole reply at the start of a room that it fits. The copy holds afterwards what the operations leave. One place
+// calls for the records of all kinds: the compiler then puts them into this function, and the stack is the smaller.
 pub fn write(m: &[u8], list: &[u8], t: Tally, copy: &mut [u8], out: &mut [u8])
     requires { ⌜ Ready (now m) (now list) (now copy) × Fitting (now m) (now list) t (length (now out)) ⌝ }
     ensures { λ _. ⌜ now (copy .exit) ≡ after (now (m .entry)) (orNone (parse (now (list .entry)))) ⌝ }
@@ -198,7 +235,11 @@ pub fn write(m: &[u8], list: &[u8], t: Tally, copy: &mut [u8], out: &mut [u8])
 {
     let names = records::write_count(out, 0, 2);
     let capabilities = t.capabilities;
-    let reads = write_capabilities(capabilities, out, names);
-    let sets = write_reads(m, list, t, copy, out, reads);
-    write_sets(m, list, t, copy, out, sets);
+    let mut at = write_capabilities(capabilities, out, names);
+    let mut i: usize = 0;
+    while i < 5 {
+        let kind = kind_at(i);
+        at = write_kind(m, list, t, kind, copy, out, at);
+        i += 1;
+    }
 }

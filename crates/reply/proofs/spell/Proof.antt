@@ -12,8 +12,9 @@ use Rattle.meaning.proofs.Lists.{length-part}
 use Rattle.octets.proofs.Splices.{part-is}
 use Rattle.operation.specs.Handing.{nameOf, fromOf, sizeOf}
 use Rattle.operation.proofs.Turns.{inside-name, inside-value}
+use Rattle.records.proofs.Pieces.{wrote-none, wrote-this}
 use Rattle.records.proofs.Lengths.{held-length, short-length, failed-length}
-use Rattle.reply.proofs.Spelling.{spelt, wrote-none, wrote-this, value-spelt, readError-spelt, updateError-spelt, short-spelt, long-spelt, not-short, not-long, no-Values, no-ReadErrors, no-Updates, no-UpdateErrors, no-LongUpdates}
+use Rattle.reply.proofs.Spelling.{spelt, value-spelt, readError-spelt, updateError-spelt, short-spelt, long-spelt, not-short, not-long, no-Values, no-ReadErrors, no-Updates, no-UpdateErrors, no-LongUpdates}
 use Rattle.reply.proofs.spell.Statement.{statement}
 use Rattle.reply.proofs.spell.Tie as tie
 
@@ -94,11 +95,6 @@ enum-told c = search needs
 enum-known-a : tie.Need-enum-known-a
 enum-known-a c = search needs
 
-returns : tie.Need-returns
-returns c =
-    let a = c .before .before .before .before .before .before .before .before .before .args in
-    wrote-none (a .out .now) (a .at) (no-Values (a .m .now) (a .list .now) (a .op) (a .kind) (a .a) (c .before .enum-told .given .1) (c .match2 .keys2))
-
 write-value-requires : tie.Need-write-value-requires
 write-value-requires c κs =
     let s = c .before .before .before .before .before .before .before .before .before .before .before .before in
@@ -111,11 +107,6 @@ enum-told-2 c = search needs
 enum-known-a-2 : tie.Need-enum-known-a-2
 enum-known-a-2 c = search needs
 
-returns-2 : tie.Need-returns-2
-returns-2 c =
-    let a = c .before .before .before .before .before .before .before .before .before .args in
-    wrote-none (a .out .now) (a .at) (no-ReadErrors (a .m .now) (a .list .now) (a .op) (a .kind) (a .a) (c .before .enum-told2 .given .1) (c .match3 .keys2))
-
 write-failed-requires : tie.Need-write-failed-requires
 write-failed-requires c κs =
     let k = c .before .before in
@@ -127,13 +118,13 @@ enum-told-3 c = search needs
 enum-told-4 : tie.Need-enum-told-4
 enum-told-4 c = search needs
 
-returns-3 : tie.Need-returns-3
-returns-3 c =
+returns : tie.Need-returns
+returns c =
     let a = c .before .before .before .before .before .before .before .before .before .args in
     wrote-none (a .out .now) (a .at) (no-Updates (a .m .now) (a .list .now) (a .op) (a .kind) (a .a) (c .before .enum-told3 .given .1) (c .match4 .keys2))
 
-returns-4 : tie.Need-returns-4
-returns-4 c =
+returns-2 : tie.Need-returns-2
+returns-2 c =
     let a = c .before .before .before .before .before .before .before .before .before .before .before .args in
     let k = c .before .before .before .before .before in
     wrote-none (a .out .now) (a .at)
@@ -169,11 +160,6 @@ enum-told-5 c = search needs
 enum-known-a-3 : tie.Need-enum-known-a-3
 enum-known-a-3 c = search needs
 
-returns-5 : tie.Need-returns-5
-returns-5 c =
-    let a = c .before .before .before .before .before .before .before .before .before .args in
-    wrote-none (a .out .now) (a .at) (no-UpdateErrors (a .m .now) (a .list .now) (a .op) (a .kind) (a .a) (c .before .enum-told5 .given .1) (c .match5 .keys2))
-
 write-failed-requires-2 : tie.Need-write-failed-requires-2
 write-failed-requires-2 c κs =
     let k = c .before .before in
@@ -185,13 +171,13 @@ enum-told-6 c = search needs
 enum-told-7 : tie.Need-enum-told-7
 enum-told-7 c = search needs
 
-returns-6 : tie.Need-returns-6
-returns-6 c =
+returns-3 : tie.Need-returns-3
+returns-3 c =
     let a = c .before .before .before .before .before .before .before .before .before .args in
     wrote-none (a .out .now) (a .at) (no-LongUpdates (a .m .now) (a .list .now) (a .op) (a .kind) (a .a) (c .before .enum-told6 .given .1) (c .match6 .keys2))
 
-returns-7 : tie.Need-returns-7
-returns-7 c =
+returns-4 : tie.Need-returns-4
+returns-4 c =
     let a = c .before .before .before .before .before .before .before .before .before .before .before .args in
     let k = c .before .before .before .before .before in
     wrote-none (a .out .now) (a .at)
@@ -224,46 +210,62 @@ write-held-requires c κs =
 same-length : tie.Need-same-length
 same-length c = search needs
 
-returns-8 : tie.Need-returns-8
-returns-8 c =
+returns-5 : tie.Need-returns-5
+returns-5 c =
     let a = c .before .before .before .before .before .before .before .before .before .before .before .before .before .before .before .args in
     let k = c .before .before .before .before .before in
     let p = c .before .before .write-value .ensures in
-    wrote-this (a .out .now) (a .at) (held k) (p .0) (p .1)
+    wrote-this (a .out .now) (a .at) (held k) p
+
+returns-6 : tie.Need-returns-6
+returns-6 c =
+    let a = c .before .before .before .before .before .before .before .before .before .args in
+    wrote-none (a .out .now) (a .at) (no-Values (a .m .now) (a .list .now) (a .op) (a .kind) (a .a) (c .before .enum-told .given .1) (c .match2 .keys2))
 
 same-length-2 : tie.Need-same-length-2
 same-length-2 c = search needs
 
-returns-9 : tie.Need-returns-9
-returns-9 c =
+returns-7 : tie.Need-returns-7
+returns-7 c =
     let a = c .before .before .before .before .before .before .before .before .before .before .before .before .before .before .before .args in
     let k = c .before .before .before .before .before in
     let p = c .before .before .write-failed .ensures in
-    wrote-this (a .out .now) (a .at) (failed k) (p .0 ∙ ap (λ (n : ℕ). a .at + n) (sym (failed-length (record { name = name (k .before .before .before .before); cause = k .a2 .given .0 .0 })))) (p .1)
+    wrote-this (a .out .now) (a .at) (failed k) (p .0 ∙ ap (λ (n : ℕ). a .at + n) (sym (failed-length (record { name = name (k .before .before .before .before); cause = k .a2 .given .0 .0 }))), p .1)
+
+returns-8 : tie.Need-returns-8
+returns-8 c =
+    let a = c .before .before .before .before .before .before .before .before .before .args in
+    wrote-none (a .out .now) (a .at) (no-ReadErrors (a .m .now) (a .list .now) (a .op) (a .kind) (a .a) (c .before .enum-told2 .given .1) (c .match3 .keys2))
 
 same-length-3 : tie.Need-same-length-3
 same-length-3 c = search needs
 
-returns-10 : tie.Need-returns-10
-returns-10 c =
+returns-9 : tie.Need-returns-9
+returns-9 c =
     let a = c .before .before .before .before .before .before .before .before .before .before .before .before .before .before .before .before .args in
     let k = c .before .before .before .before .before in
     let z = k .before .before .before .before .before in
     let p = c .before .before .write-short .ensures in
     let e = part-is (a .list .now) (from z) (size z) in
-    wrote-this (a .out .now) (a .at) (short k)
-    (p .0 ∙ ap (λ (w : List ℕ). a .at + (3 + length w)) e ∙ ap (λ (l : ℕ). a .at + l) (sym (short-length (record { name = name z; value = sent z }))))
-    (p .1 ∙ ap (λ (w : List ℕ). splice (a .out .now) (a .at) (shortOctets (record { name = name z; value = w }))) e)
+    wrote-this (a .out .now) (a .at) (short k) (
+      p .0 ∙ ap (λ (w : List ℕ). a .at + (3 + length w)) e ∙ ap (λ (l : ℕ). a .at + l) (sym (short-length (record { name = name z; value = sent z }))),
+      p .1 ∙ ap (λ (w : List ℕ). splice (a .out .now) (a .at) (shortOctets (record { name = name z; value = w }))) e,
+    )
 
 same-length-4 : tie.Need-same-length-4
 same-length-4 c = search needs
 
-returns-11 : tie.Need-returns-11
-returns-11 c =
+returns-10 : tie.Need-returns-10
+returns-10 c =
     let a = c .before .before .before .before .before .before .before .before .before .before .before .before .before .before .before .args in
     let k = c .before .before .before .before .before in
     let p = c .before .before .write-failed2 .ensures in
-    wrote-this (a .out .now) (a .at) (failed-set k) (p .0 ∙ ap (λ (n : ℕ). a .at + n) (sym (failed-length (record { name = name (k .before .before .before .before); cause = k .a3 .given .0 .0 })))) (p .1)
+    wrote-this (a .out .now) (a .at) (failed-set k) (p .0 ∙ ap (λ (n : ℕ). a .at + n) (sym (failed-length (record { name = name (k .before .before .before .before); cause = k .a3 .given .0 .0 }))), p .1)
+
+returns-11 : tie.Need-returns-11
+returns-11 c =
+    let a = c .before .before .before .before .before .before .before .before .before .args in
+    wrote-none (a .out .now) (a .at) (no-UpdateErrors (a .m .now) (a .list .now) (a .op) (a .kind) (a .a) (c .before .enum-told5 .given .1) (c .match5 .keys2))
 
 same-length-5 : tie.Need-same-length-5
 same-length-5 c = search needs
@@ -275,9 +277,10 @@ returns-12 c =
     let z = k .before .before .before .before .before in
     let p = c .before .before .write-held .ensures in
     let e = part-is (a .list .now) (from z) (size z) in
-    wrote-this (a .out .now) (a .at) (long-held k)
-    (p .0 ∙ ap (λ (w : List ℕ). a .at + (4 + length w)) e ∙ ap (λ (l : ℕ). a .at + l) (sym (held-length (record { name = name z; value = sent z }))))
-    (p .1 ∙ ap (λ (w : List ℕ). splice (a .out .now) (a .at) (heldOctets (record { name = name z; value = w }))) e)
+    wrote-this (a .out .now) (a .at) (long-held k) (
+      p .0 ∙ ap (λ (w : List ℕ). a .at + (4 + length w)) e ∙ ap (λ (l : ℕ). a .at + l) (sym (held-length (record { name = name z; value = sent z }))),
+      p .1 ∙ ap (λ (w : List ℕ). splice (a .out .now) (a .at) (heldOctets (record { name = name z; value = w }))) e,
+    )
 
 pub spell-spec : {M : Type 1} → statement M
 spell-spec =
@@ -288,16 +291,14 @@ spell-spec =
     size-of-requires
     enum-told
     enum-known-a
-    returns
     write-value-requires
     enum-told-2
     enum-known-a-2
-    returns-2
     write-failed-requires
     enum-told-3
     enum-told-4
-    returns-3
-    returns-4
+    returns
+    returns-2
     add-write-short
     sub-write-short
     part-write-short-start
@@ -305,24 +306,26 @@ spell-spec =
     write-short-requires
     enum-told-5
     enum-known-a-3
-    returns-5
     write-failed-requires-2
     enum-told-6
     enum-told-7
-    returns-6
-    returns-7
+    returns-3
+    returns-4
     add-write-held
     sub-write-held
     part-write-held-start
     part-write-held-end
     write-held-requires
     same-length
-    returns-8
+    returns-5
+    returns-6
     same-length-2
-    returns-9
+    returns-7
+    returns-8
     same-length-3
-    returns-10
+    returns-9
     same-length-4
+    returns-10
     returns-11
     same-length-5
     returns-12)

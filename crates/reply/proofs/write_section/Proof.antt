@@ -39,13 +39,13 @@ same-length : tie.Need-same-length Inv-loop μ-loop
 same-length c = long-of _ (c .before .before .loop .inv .under .isSound) ∙ sym (long-of _ (c .before .before .before .before .before .before .pre .0))
 
 same-length-2 : tie.Need-same-length-2 Inv-loop μ-loop
-same-length-2 c = c .before .before .loop .inv .same
+same-length-2 c = c .before .before .loop .inv .remains .same
 
 returns : tie.Need-returns Inv-loop μ-loop
 returns c =
     let l = c .before .before .loop in
     let e = writing-end _ _ _ _ _ _ _ (l .end) (l .from) (l .inv) _ (c .before .hand-out .ensures) (c .match .keys2) in
-    (e .1, (e .0, e .2))
+    (e .0, e .1)
 
 carry-out-requires : tie.Need-carry-out-requires Inv-loop μ-loop
 carry-out-requires c κs = (c .before .before .before .before .before .loop .inv .under .isSound, ahead (c .before .before) .2)
