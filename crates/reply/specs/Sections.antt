@@ -1,4 +1,4 @@
--- A reply by its kinds of record: their octets, how many there are and what stands before them, and what writing says of a room.
+-- A reply by its kinds of record: their octets, how many there are, what stands before them, and what is known where a reply is written.
 use Prim.Native.Nat.{ℕ, _+_, _≤_}
 use mathlib.Core.Path.{_≡_}
 use mathlib.Core.Bool.{Bool, true, cond}
@@ -17,6 +17,7 @@ use Rattle.tally.specs.Tallies.{tallyOf, readOctets, setOctets, anyRead, anySet
 use Rattle.reply.specs.declared.Kind.{Kind}
 use Rattle.reply.specs.declared.Kind.the-variants.{Values, ReadErrors, Updates, UpdateErrors, LongUpdates}
 
+-- the octets of the records of a kind
 unfoldable pub section : Kind → Records → List ℕ
 section Values r = flat heldOctets (r .values)
 section ReadErrors r = flat failedOctets (r .readErrors)
@@ -60,7 +61,7 @@ front LongUpdates t = longLength (t .«long_updates»)
 abbrev pub piece : Records → Kind → List ℕ
 piece r k = front k (tallyOf r) ++ section k r
 
--- ---- what the code asks and says
+-- ---- what the code asks
 
 -- the records of a list of operations, carried out on m
 abbrev pub recordsOf : List ℕ → List ℕ → Records

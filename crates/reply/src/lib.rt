@@ -226,8 +226,8 @@ fn kind_at(i: usize) -> Kind
     }
 }
 
-// The whole reply at the start of a room that it fits. The copy holds afterwards what the operations leave. One place
-// calls for the records of all kinds: the compiler then puts them into this function, and the stack is the smaller.
+// The whole reply at the start of a room that it fits. The copy holds afterwards what the operations leave. A loop, so that
+// one place alone writes a kind: the compiler puts it into this function, and a call takes less stack.
 pub fn write(m: &[u8], list: &[u8], t: Tally, copy: &mut [u8], out: &mut [u8])
     requires { ⌜ Ready (now m) (now list) (now copy) × Fitting (now m) (now list) t (length (now out)) ⌝ }
     ensures { λ _. ⌜ now (copy .exit) ≡ after (now (m .entry)) (orNone (parse (now (list .entry)))) ⌝ }
