@@ -8,14 +8,15 @@ use mathlib.Core.Option.{Option, none, some}
 use mathlib.Core.List.{List, [], _∷_, _++_}
 use lib.ListN.{length, take, drop, set}
 use denote.Enum.Declared.{tagOf}
-use borrow.Author.Tests.{le-leb, lt-leb}
-use Rattle.meaning.specs.Octets.{octet, at16, part, implies, every}
+use borrow.Author.Tests.{le-leb, lt-leb, eq-eqb}
+use Rattle.meaning.specs.Octets.{nonempty, octet, at16, part, implies, every}
 use Rattle.meaning.specs.Checks.{firstFailed, settle}
-use Rattle.meaning.specs.Memory.{waiting, setClock}
+use Rattle.meaning.specs.Table.{place, entryCount, memoryLength}
+use Rattle.meaning.specs.Memory.{waiting, setClock, sound, fresh}
 use Rattle.meaning.specs.Operation.{Op, parse, isSome, orNone}
 use Rattle.meaning.specs.Step.{after}
 use Rattle.meaning.specs.Reply.{complete}
-use Rattle.meaning.specs.Calls.{done, told, call, isCommand, isAcknowledgement, lengthField, operations, opsOf, records, carriedOut, acknowledged, deed, fits, messageChecks, message}
+use Rattle.meaning.specs.Calls.{localPermitted, localMemory, localChecks, localValue, reports, buildChecks, build, makeFresh, done, told, call, isCommand, isAcknowledgement, lengthField, operations, opsOf, records, carriedOut, acknowledged, deed, fits, messageChecks, message}
 use Rattle.meaning.specs.Calls as calls
 use Rattle.meaning.proofs.Numbers.{Taken, Measured, length-right}
 use Rattle.octets.proofs.Splices.{part-is}
@@ -32,6 +33,10 @@ pub gives-done : (w m room : List ℕ) (n : ℕ) {o : calls.Outcome} {m′ room�
     → Gives o (Done n) m′ room′
 unfolding numberOf lengthOf
 gives-done w m room n e a b c = rw e (record { number = refl; written = a; memoryIs = b; roomIs = c })
+
+-- a call without a room: nothing written, and the memory that it leaves
+pub gives-left : (m : List ℕ) (n : ℕ) (r : Outcome) {o : calls.Outcome} {m′ : List ℕ} → o ≡ told n m [] → numberOf r ≡ n → lengthOf r ≡ 0 → m′ ≡ m → Gives o r m′ []
+gives-left m n r e a b c = rw e (record { number = a; written = b; memoryIs = c; roomIs = refl })
 
 -- ---- a whole list of operations
 
@@ -81,6 +86,21 @@ module _ (m s room : List ℕ) where
   unfolding message messageChecks command reply call firstFailed isCommand isAcknowledgement implies deed opsOf
   message-command l w =
       simp (l .taken .isSound, le-leb 1 (length s) (l .taken .nonzero), le-leb (length s) 2048 (l .taken .short), l .type, length-right m s l, w)
+
+-- ---- the other calls, where their checks have passed
+
+pub local-does : (m : List ℕ) (n k : ℕ) (v : List ℕ) → k ≡ place n → sound m ≡ true → localPermitted n v ≡ true → localValue m n v ≡ told 0 (localMemory m k v) []
+unfolding localValue localChecks call firstFailed settle
+local-does m n k v e s p = rw (e, s, p)
+
+pub fresh-does : (m : List ℕ) → length m ≡ memoryLength → makeFresh m ≡ told 0 fresh []
+unfolding makeFresh call firstFailed settle
+fresh-does m h = rw (eq-eqb (length m) memoryLength h)
+
+module _ (m room : List ℕ) (s : sound m ≡ true) (h : 1600 ≤ length room) (w : waiting m ≡ false) where
+  pub build-nothing : nonempty (reports m entryCount) ≡ false → build m room ≡ told 9 m room
+  unfolding build buildChecks call firstFailed settle
+  build-nothing n = simp (s, le-leb 1600 (length room) h, w, n)
 
 -- ---- what is said of an outcome
 

@@ -10,30 +10,19 @@ use Rattle.meaning.specs.Calls.{isCommand, operations, message}
 use Rattle.meaning.proofs.Lists.{Each, Octets}
 use Rattle.meaning.proofs.Decode.{decode}
 use Rattle.meaning.proofs.Cut.{commandOf, Part, joinedParts, sends, lastMemory, joinedReplies, CarriedOut, cut}
-use Rattle.endpoint.specs.declared.Outcome.{Outcome}
-use Rattle.endpoint.specs.Outcomes.{numberOf, lengthOf, Gives}
-use Rattle.endpoint.proofs.Told.{message-written}
-
--- what a caller has after a call
-pub record Seen : Type 0 where
-  pub outcome : Outcome
-  pub memory : List ℕ
-  pub room : List ℕ
+use Rattle.endpoint.specs.Outcomes.{numberOf, lengthOf}
+use Rattle.endpoint.proofs.Told.{Seen, Allows, message-written}
 
 -- the reply that a caller finds in the room
 abbrev pub replyIn : Seen → List ℕ
 replyIn x = take (lengthOf (x .outcome)) (x .room)
-
--- the contract of `message` allows x after a call with this memory, this message and this room
-abbrev pub Allowed : List ℕ → List ℕ → List ℕ → Seen → Type 0
-Allowed m s room x = Gives (message m s room) (x .outcome) (x .memory) (x .room)
 
 -- the parts sent in order, each as a command into the memory and the room that the call before left
 abbrev pub Called : List ℕ → List ℕ → List (List ℕ) → List Seen → Type 0
 Called m room [] [] = Unit {0}
 Called m room [] (x ∷ xs) = ⊥
 Called m room (p ∷ ps) [] = ⊥
-Called m room (p ∷ ps) (x ∷ xs) = Allowed m (commandOf p) room x × Called (x .memory) (x .room) ps xs
+Called m room (p ∷ ps) (x ∷ xs) = Allows (message m (commandOf p) room) x × Called (x .memory) (x .room) ps xs
 
 -- the memory after the last of them, and the records of their replies joined kind by kind
 unfoldable pub lastSeen : List ℕ → List Seen → List ℕ
@@ -73,7 +62,7 @@ pub record CutSeen (x : Seen) (m : List ℕ) (xs : List Seen) : Type 0 where
   pub sameMemory : lastSeen m xs ≡ x .memory
   pub sameRecords : recordsSeen xs ≡ decode (replyIn x)
 
-pub cut-reached : (m s room : List ℕ) (x : Seen) → Octets s → isCommand s ≡ true → Allowed m s room x → numberOf (x .outcome) ≡ 0
+pub cut-reached : (m s room : List ℕ) (x : Seen) → Octets s → isCommand s ≡ true → Allows (message m s room) x → numberOf (x .outcome) ≡ 0
     → (parts : List (List ℕ)) → Each Part parts → joinedParts parts ≡ operations s → (xs : List Seen) → Called m room parts xs → CutSeen x m xs
 cut-reached m s room x o c g n parts hs e xs d =
     let k = cut m s room o c (sym (g .number) ∙ n) parts hs e in

@@ -4,12 +4,12 @@ use native.Mathlib.Omega.{arith}
 use mathlib.Core.Path.{_≡_, refl, sym, ap₂, _∙_}
 use mathlib.Core.Bool.{cond}
 use mathlib.Core.List.{List, [], _∷_}
-use lib.ListN.{length, getD, take, drop}
 use lib.Dec.{eqb}
+use lib.ListN.{length, getD, take, drop}
 use lib.Seq.{take-at}
-use Rattle.meaning.specs.Calls.{message}
+use Rattle.meaning.specs.Calls.{message, localValue, build, expiry, makeFresh}
 use Rattle.meaning.specs.Calls as calls
-use Rattle.meaning.proofs.Refused.{RoomAfter, message-room}
+use Rattle.meaning.proofs.Refused.{RoomAfter, message-room, build-room}
 use Rattle.endpoint.specs.declared.Outcome.{Outcome}
 use Rattle.endpoint.specs.declared.Outcome.the-variants.{Done, MemoryUnsound, MessageEmpty, MessageTooLong, TypeUnknown, LengthWrong, OperationMalformed, NoRoom, Idle, NothingPending, AlreadyWaiting, RoomTooSmall, NotPermitted, SendAgain, GivenUp}
 use Rattle.endpoint.specs.Outcomes.{numberOf, lengthOf, Gives}
@@ -27,7 +27,23 @@ pub message-written : (m s room : List ℕ) {r : Outcome} {m′ room′ : List �
     → (lengthOf r ≤ length room) × (take (lengthOf r) room′ ≡ message m s room .written)
 message-written m s room g = found (message m s room) room (message-room m s room) g
 
--- ---- law 9: a number and a length belong to one outcome
+pub build-written : (m room : List ℕ) {r : Outcome} {m′ room′ : List ℕ} → Gives (build m room) r m′ room′
+    → (lengthOf r ≤ length room) × (take (lengthOf r) room′ ≡ build m room .written)
+build-written m room g = found (build m room) room (build-room m room) g
+
+-- ---- law 9: what a call's contract allows is one thing
+
+-- what a caller has after a call; where no room was lent there is an empty one
+pub record Seen : Type 0 where
+  pub outcome : Outcome
+  pub memory : List ℕ
+  pub room : List ℕ
+
+-- the contract of a call that gives o allows x
+abbrev pub Allows : calls.Outcome → Seen → Type 0
+Allows o x = Gives o (x .outcome) (x .memory) (x .room)
+
+-- a number and a length belong to one outcome
 
 refusals : List Outcome
 refusals =
@@ -55,9 +71,27 @@ outcome-is NotPermitted = refl
 outcome-is SendAgain = refl
 outcome-is GivenUp = refl
 
-pub one-outcome : (o : calls.Outcome) (r q : Outcome) (m n room hall : List ℕ) → Gives o r m room → Gives o q n hall → (r ≡ q) × (m ≡ n) × (room ≡ hall)
-one-outcome o r q m n room hall g h = (
-  sym (outcome-is r) ∙ ap₂ outcomeOf (g .number ∙ sym (h .number)) (g .written ∙ sym (h .written)) ∙ outcome-is q,
-  g .memoryIs ∙ sym (h .memoryIs),
-  g .roomIs ∙ sym (h .roomIs),
-)
+one-seen : (x y : Seen) → x .outcome ≡ y .outcome → x .memory ≡ y .memory → x .room ≡ y .room → x ≡ y
+one-seen x y a b c = rw (a, b, c)
+
+pub one-outcome : (o : calls.Outcome) (x y : Seen) → Allows o x → Allows o y → x ≡ y
+one-outcome o x y g h =
+    one-seen x y (sym (outcome-is (x .outcome)) ∙ ap₂ outcomeOf (g .number ∙ sym (h .number)) (g .written ∙ sym (h .written)) ∙ outcome-is (y .outcome))
+    (g .memoryIs ∙ sym (h .memoryIs)) (g .roomIs ∙ sym (h .roomIs))
+
+-- of each of the five calls
+
+pub message-one : (m s room : List ℕ) (x y : Seen) → Allows (message m s room) x → Allows (message m s room) y → x ≡ y
+message-one m s room = one-outcome (message m s room)
+
+pub localValue-one : (m : List ℕ) (n : ℕ) (v : List ℕ) (x y : Seen) → Allows (localValue m n v) x → Allows (localValue m n v) y → x ≡ y
+localValue-one m n v = one-outcome (localValue m n v)
+
+pub build-one : (m room : List ℕ) (x y : Seen) → Allows (build m room) x → Allows (build m room) y → x ≡ y
+build-one m room = one-outcome (build m room)
+
+pub expiry-one : (m : List ℕ) (x y : Seen) → Allows (expiry m) x → Allows (expiry m) y → x ≡ y
+expiry-one m = one-outcome (expiry m)
+
+pub makeFresh-one : (m : List ℕ) (x y : Seen) → Allows (makeFresh m) x → Allows (makeFresh m) y → x ≡ y
+makeFresh-one m = one-outcome (makeFresh m)

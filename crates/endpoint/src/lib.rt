@@ -4,12 +4,15 @@
 ghost use Prim.Native.Nat.{_≤_};
 ghost use mathlib.Core.Path.{_≡_};
 ghost use mathlib.Core.Bool.{true};
+ghost use mathlib.Core.List.{[]};
 ghost use lib.ListN.{length};
 ghost use Rattle.meaning.specs.Octets.{octet};
 ghost use Rattle.meaning.specs.Memory.{sound};
 ghost use Rattle.meaning.specs.Operation.{parse, isSome};
-ghost use Rattle.meaning.specs.Calls.{message};
+ghost use Rattle.meaning.specs.Delay.{delay};
+ghost use Rattle.meaning.specs.Calls.{message, localValue, build, expiry, makeFresh};
 ghost use Rattle.endpoint.specs.Outcomes.{numberOf, lengthOf, Gives, acknowledgement, command};
+use delay::Nanoseconds;
 
 // What a call answers: done, with the length of what it wrote, or why nothing was done. A waiting notification is to be
 // sent again, or has been given up.
@@ -136,4 +139,78 @@ pub fn message(memory: &mut [u8], sent: &[u8], room: &mut [u8]) -> Outcome
         4 => acknowledge(memory, room),
         _ => Outcome::TypeUnknown,
     }
+}
+
+// A local value taken: a name that the port sets, and its value, or none to make it absent.
+pub fn local_value(memory: &mut [u8], name: usize, value: &[u8]) -> Outcome
+    ensures { λ r. ⌜ Gives (localValue (now (memory .entry)) name (now (value .entry))) r (now (memory .exit)) [] ⌝ }
+{
+    if !soundness::sound(memory) {
+        return Outcome::MemoryUnsound;
+    }
+    if !local::permitted(name, value) {
+        return Outcome::NotPermitted;
+    }
+    local::store(memory, table::place_of(name), value);
+    Outcome::Done(0)
+}
+
+// A notification built of all that is pending. It is to be sent, and waits for its acknowledgement.
+pub fn build(memory: &mut [u8], room: &mut [u8]) -> Outcome
+    ensures { λ r. ⌜ Gives (build (now (memory .entry)) (now (room .entry))) r (now (memory .exit)) (now (room .exit)) ⌝ }
+{
+    if !soundness::sound(memory) {
+        return Outcome::MemoryUnsound;
+    }
+    if room.len() < 1600 {
+        return Outcome::RoomTooSmall;
+    }
+    if memory::waiting(memory) {
+        return Outcome::AlreadyWaiting;
+    }
+    let due = notification::count(memory);
+    if due.values + due.absent == 0 {
+        return Outcome::NothingPending;
+    }
+    let n = notification::write(memory, due, room);
+    notification::clear(memory);
+    memory::set_clock(memory, 1, 0);
+    Outcome::Done(n)
+}
+
+// A timer expiry taken, of the timer that runs from the sending of a notification.
+pub fn expiry(memory: &mut [u8]) -> Outcome
+    ensures { λ r. ⌜ Gives (expiry (now (memory .entry))) r (now (memory .exit)) [] ⌝ }
+{
+    if !soundness::sound(memory) {
+        return Outcome::MemoryUnsound;
+    }
+    if !memory::waiting(memory) {
+        return Outcome::Idle;
+    }
+    let n = memory::expiries(memory);
+    if n < 4 {
+        memory::set_clock(memory, 1, n + 1);
+        return Outcome::SendAgain;
+    }
+    memory::set_clock(memory, 0, 0);
+    Outcome::GivenUp
+}
+
+// Memory made fresh, whatever it holds.
+pub fn make_fresh(memory: &mut [u8]) -> Outcome
+    ensures { λ r. ⌜ Gives (makeFresh (now (memory .entry))) r (now (memory .exit)) [] ⌝ }
+{
+    if memory.len() != table::MEMORY_LENGTH {
+        return Outcome::MemoryUnsound;
+    }
+    memory::make_fresh(memory);
+    Outcome::Done(0)
+}
+
+// The conversion of a delay to the eight octets of its value, the LOW octet first.
+pub fn delay_octets(time: Nanoseconds) -> [u8; 8]
+    ensures { λ r. ⌜ r ≡ delay (time .0) ⌝ }
+{
+    time.to_octets()
 }

@@ -1,0 +1,103 @@
+-- `endpoint::expiry` meets its contract.
+use Prim.Native.Nat.{ℕ, _+_}
+use native.Mathlib.Omega.{arith}
+use mathlib.Core.Path.{_≡_, refl, sym, ap, _∙_}
+use mathlib.Core.Bool.{true}
+use mathlib.Core.List.{[]}
+use borrow.Author.Needs.{needs}
+use Rattle.meaning.specs.Memory.{sound, waiting, expiries, setClock}
+use Rattle.meaning.proofs.Tests.{denied, affirmed}
+use Rattle.meaning.proofs.Sound.{opened}
+use Rattle.meaning.proofs.Numbers.{expiry-1, expiry-8}
+use Rattle.meaning.proofs.Timer.{expiry-again, expiry-given-up}
+use Rattle.endpoint.specs.Outcomes.{numberOf, lengthOf}
+use Rattle.endpoint.specs.declared.Outcome.the-variants.{MemoryUnsound, Idle, SendAgain, GivenUp}
+use Rattle.endpoint.proofs.Exits.{gives-told, gives-left}
+use Rattle.endpoint.proofs.expiry.Statement.{statement}
+use Rattle.endpoint.proofs.expiry.Tie as tie
+
+tested : (c : tie.Else1) → sound (c .before .before .before .before .args .memory .now) ≡ true
+tested c = sym (c .before .sound .ensures) ∙ affirmed _ (c .if1 .left)
+
+waits : (c : tie.Else2) → waiting (c .before .before .before .before .before .before .before .args .memory .now) ≡ true
+waits c = sym (c .before .waiting .ensures) ∙ affirmed _ (c .if2 .left)
+
+sound-requires : tie.Need-sound-requires
+sound-requires c κs = search needs
+
+same-length : tie.Need-same-length
+same-length c = search needs
+
+returns : tie.Need-returns
+unfolding numberOf lengthOf
+returns c =
+    let m = c .before .before .before .before .args .memory .now in
+    gives-told m [] 1 MemoryUnsound (expiry-1 m (sym (c .before .sound .ensures) ∙ denied _ (c .if1 .taken))) refl refl
+
+waiting-requires : tie.Need-waiting-requires
+waiting-requires c κs = opened _ (tested (c .before)) .long
+
+same-length-2 : tie.Need-same-length-2
+same-length-2 c = search needs
+
+returns-2 : tie.Need-returns-2
+unfolding numberOf lengthOf
+returns-2 c =
+    let m = c .before .before .before .before .before .before .before .args .memory .now in
+    gives-told m [] 8 Idle (expiry-8 m (tested (c .before .before .before)) (sym (c .before .waiting .ensures) ∙ denied _ (c .if2 .taken))) refl refl
+
+expiries-requires : tie.Need-expiries-requires
+expiries-requires c κs = opened _ (tested (c .before .before .before .before)) .long
+
+add-set-clock : tie.Need-add-set-clock
+add-set-clock c = search needs
+
+set-clock-requires : tie.Need-set-clock-requires
+set-clock-requires c κs = opened _ (tested (c .before .before .before .before .before .before .before)) .long
+
+same-length-3 : tie.Need-same-length-3
+same-length-3 c = search needs
+
+returns-3 : tie.Need-returns-3
+unfolding numberOf lengthOf
+returns-3 c =
+    let t = c .before .before .before .before in
+    let e = t .before .expiries .ensures in
+    let k = t .before .before .before in
+    let m = k .before .before .before .before .before .before .before .args .memory .now in
+    gives-left (setClock m 1 (expiries m + 1)) 20 SendAgain (expiry-again m (tested (k .before .before .before)) (waits k) (omega (arith, e, t .if3 .taken))) refl refl
+    (c .before .before .set-clock .ensures ∙ ap (λ (n : ℕ). setClock m 1 (n + 1)) e)
+
+set-clock-requires-2 : tie.Need-set-clock-requires-2
+set-clock-requires-2 c κs = opened _ (tested (c .before .before .before .before .before .before .before)) .long
+
+same-length-4 : tie.Need-same-length-4
+same-length-4 c = search needs
+
+returns-4 : tie.Need-returns-4
+unfolding numberOf lengthOf
+returns-4 c =
+    let t = c .before .before .before .before in
+    let e = t .before .expiries .ensures in
+    let k = t .before .before .before in
+    let m = k .before .before .before .before .before .before .before .args .memory .now in
+    gives-left (setClock m 0 0) 21 GivenUp (expiry-given-up m (tested (k .before .before .before)) (waits k) (omega (arith, e, t .if3 .left))) refl refl (c .before .before .set-clock2 .ensures)
+
+pub expiry-spec : {M : Type 1} → statement M
+expiry-spec =
+    tie.close
+    (tie.spec
+    sound-requires
+    same-length
+    returns
+    waiting-requires
+    same-length-2
+    returns-2
+    expiries-requires
+    add-set-clock
+    set-clock-requires
+    same-length-3
+    returns-3
+    set-clock-requires-2
+    same-length-4
+    returns-4)

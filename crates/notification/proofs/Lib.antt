@@ -1,0 +1,2 @@
+-- Laws that the proofs of `notification` share.
+pub mod Reported

@@ -1,0 +1,2 @@
+-- What the contracts of `notification` cite beside `meaning`.
+pub mod Reports

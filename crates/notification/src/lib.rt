@@ -1,0 +1,114 @@
+// Notifications: what is due to be reported, its octets, and the marks cleared. All of it goes by the pending marks of a
+// sound memory, in table order.
+ghost use Prim.Native.Nat.{_+_, _≤_, _<_};
+ghost use mathlib.Core.Path.{_≡_};
+ghost use mathlib.Core.Bool.{true};
+ghost use lib.ListN.{length};
+ghost use Rattle.meaning.specs.Table.{memoryLength, entryCount};
+ghost use Rattle.meaning.specs.Memory.{sound};
+ghost use Rattle.meaning.specs.Calls.{reports, notification, cleared};
+ghost use Rattle.records.specs.Writing.{Wrote};
+ghost use Rattle.notification.specs.Reports.{Few, more, dueAt, dueOf, partOf};
+
+// The records due: how many values with their octets, and how many absent ones.
+pub struct Due {
+    pub values: usize,
+    pub octets: usize,
+    pub absent: usize,
+}
+
+// One entry more: what its pending mark makes due.
+fn with_entry(d: Due, m: &[u8], k: usize) -> Due
+    requires { ⌜ (length (now m) ≡ memoryLength) × (k < entryCount) × Few 18 d ⌝ }
+    ensures { λ r. ⌜ r ≡ more d (dueAt (now (m .entry)) k) ⌝ }
+{
+    let mut r = d;
+    if !memory::pending(m, k) {
+        return r;
+    }
+    if !memory::present(m, k) {
+        r.absent = d.absent + 1;
+        return r;
+    }
+    r.values = d.values + 1;
+    r.octets = d.octets + 4 + memory::body(m, k).len();
+    r
+}
+
+// What the pending marks make due.
+pub fn count(m: &[u8]) -> Due
+    requires { ⌜ length (now m) ≡ memoryLength ⌝ }
+    ensures { λ r. ⌜ r ≡ dueOf (reports (now (m .entry)) entryCount) ⌝ }
+{
+    let mut d = Due {
+        values: 0,
+        octets: 0,
+        absent: 0,
+    };
+    let mut k: usize = 0;
+    while k < table::ENTRY_COUNT {
+        d = with_entry(d, m, k);
+        k += 1;
+    }
+    d
+}
+
+// The record of the entry at a place, if one of this kind is due: a value, or cause 03 of an absent name.
+fn write_entry(m: &[u8], k: usize, values: bool, out: &mut [u8], at: usize) -> usize
+    requires { ⌜ (length (now m) ≡ memoryLength) × (k < entryCount) × (at + length (partOf values (dueAt (now m) k)) ≤ length (now out)) ⌝ }
+    ensures { λ r. ⌜ Wrote (now (out .entry)) at (partOf values (dueAt (now (m .entry)) k)) r (now (out .exit)) ⌝ }
+{
+    if !memory::pending(m, k) {
+        return at;
+    }
+    let row = table::row_at(k);
+    if memory::present(m, k) {
+        if !values {
+            return at;
+        }
+        return records::write_held(out, at, row.name, memory::body(m, k));
+    }
+    if values {
+        return at;
+    }
+    records::write_failed(out, at, row.name, 3)
+}
+
+// The records of one kind: the values, or the absent names.
+fn write_kind(m: &[u8], values: bool, out: &mut [u8], at: usize) -> usize
+    requires { ⌜ (length (now m) ≡ memoryLength) × (at + length (partOf values (reports (now m) entryCount)) ≤ length (now out)) ⌝ }
+    ensures { λ r. ⌜ Wrote (now (out .entry)) at (partOf values (reports (now (m .entry)) entryCount)) r (now (out .exit)) ⌝ }
+{
+    let mut to = at;
+    let mut k: usize = 0;
+    while k < table::ENTRY_COUNT {
+        to = write_entry(m, k, values, out, to);
+        k += 1;
+    }
+    to
+}
+
+// A notification of what is due; the place after it.
+pub fn write(m: &[u8], d: Due, out: &mut [u8]) -> usize
+    requires { ⌜ (sound (now m) ≡ true) × (d ≡ dueOf (reports (now m) entryCount)) × (1600 ≤ length (now out)) ⌝ }
+    ensures { λ r. ⌜ Wrote (now (out .entry)) 0 (notification (now (m .entry))) r (now (out .exit)) ⌝ }
+{
+    let head = records::write_head(out, 0, 3, 2 + d.octets + 3 * d.absent);
+    let values = records::write_count(out, head, d.values);
+    let count = write_kind(m, true, out, values);
+    let absent = records::write_count(out, count, d.absent);
+    write_kind(m, false, out, absent)
+}
+
+// The pending marks cleared.
+pub fn clear(m: &mut [u8])
+    requires { ⌜ length (now m) ≡ memoryLength ⌝ }
+    ensures { λ _. ⌜ now (m .exit) ≡ cleared entryCount (now (m .entry)) ⌝ }
+{
+    let mut k: usize = 0;
+    while k < table::ENTRY_COUNT {
+        let s = memory::subscribed(m, k);
+        memory::remark(m, k, s, false);
+        k += 1;
+    }
+}
