@@ -1,14 +1,14 @@
 -- Law 1: fresh memory is sound, and every call leaves sound memory sound.
 use Prim.Native.Nat.{ℕ, zero, suc, _+_, _-_, _/_, _%_, _≤_, _<_}
 use native.Mathlib.Omega.{arith}
-use native.Mathlib.Decide.{ℕ-discrete}
+use native.Mathlib.Decide.{ℕ-discrete, decLe}
 use mathlib.Core.Path.{_≡_, refl, sym, ap, _∙_}
 use mathlib.Core.Logic.{inl, inr}
 use mathlib.Core.Bool.{Bool, true, false, _&&_, _||_, not, cond, false≢true}
 use mathlib.Core.List.{List, [], _∷_}
 use lib.ListN.{length}
-use lib.Dec.{eqb, ltb}
-use borrow.Author.Tests.{leb-true, ltb-true, eqb-true, eq-eqb, ne-eqb, le-leb}
+use lib.Dec.{eqb}
+use borrow.Author.Tests.{leb-true, eqb-true, eq-eqb, ne-eqb, le-leb, lt-ltb, le-ltb}
 use Rattle.meaning.specs.Octets.{every, implies, nonempty, part}
 use Rattle.meaning.specs.Checks.{Checks, firstFailed, settle}
 use Rattle.meaning.specs.Table.{Row, rowAt, rows, byPort, byController, place, listed, entryCount, memoryLength, commit}
@@ -230,13 +230,35 @@ build-sound m room s =
     call-memory IsSound (buildChecks m (length room)) _ m room s
     (λ e. setClock-sound (cleared entryCount m) 1 0 (opened (cleared entryCount m) (cleared-sound entryCount m (omega arith) s)) (clock-waiting 0 (omega arith)))
 
-pub expiry-sound : (m : List ℕ) → sound m ≡ true → sound (expiry m .memory) ≡ true
-unfolding expiry expired
-expiry-sound m s = call-memory IsSound (expiryChecks m) _ m [] s (λ e. go (ltb (expiries m) 4) refl)
+abbrev againOr : List ℕ → Bool → Outcome
+againOr m b = cond b (told 20 (setClock m 1 (expiries m + 1)) []) (told 21 (setClock m 0 0) [])
+
+-- expiries 1 to 4 send again, the fifth gives up
+pub expired-again : (m : List ℕ) → expiries m < 4 → expired m ≡ told 20 (setClock m 1 (expiries m + 1)) []
+unfolding expired
+expired-again m h = ap (againOr m) (lt-ltb (expiries m) 4 h)
+
+pub expired-last : (m : List ℕ) → 4 ≤ expiries m → expired m ≡ told 21 (setClock m 0 0) []
+unfolding expired
+expired-last m h = ap (againOr m) (le-ltb (expiries m) 4 h)
+
+-- what holds of both holds of an expiry
+pub expired-either : (P : Outcome → Type 0) (m : List ℕ) → (expiries m < 4 → P (told 20 (setClock m 1 (expiries m + 1)) [])) → P (told 21 (setClock m 0 0) [])
+    → P (expired m)
+expired-either P m f g = go (decLe 4 (expiries m))
   where
-    go : (b : Bool) → ltb (expiries m) 4 ≡ b → sound (cond b (told 20 (setClock m 1 (expiries m + 1)) []) (told 21 (setClock m 0 0) []) .memory) ≡ true
-    go true e = setClock-sound m 1 (expiries m + 1) (opened m s) (clock-waiting (expiries m + 1) (omega (arith, ltb-true (expiries m) 4 e)))
-    go false e = setClock-sound m 0 0 (opened m s) clock-idle
+    go : Dec (4 ≤ expiries m) → P (expired m)
+    go (yes h) = rw (expired-last m h) g
+    go (no h) = rw (expired-again m (omega arith)) (f (omega arith))
+
+pub expiry-sound : (m : List ℕ) → sound m ≡ true → sound (expiry m .memory) ≡ true
+unfolding expiry
+expiry-sound m s =
+    call-memory IsSound (expiryChecks m) (expired m) m [] s
+    (λ e.
+    expired-either (λ o. IsSound (o .memory)) m
+    (λ h. setClock-sound m 1 (expiries m + 1) (opened m s) (clock-waiting (expiries m + 1) (omega arith)))
+    (setClock-sound m 0 0 (opened m s) clock-idle))
 
 -- from any memory, of any content
 pub makeFresh-sound : (m : List ℕ) → length m ≡ memoryLength → sound (makeFresh m .memory) ≡ true

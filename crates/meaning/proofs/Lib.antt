@@ -21,6 +21,7 @@ pub mod Notified
 pub mod Refused
 pub mod Numbers
 pub mod Timer
+pub mod Sendings
 pub mod Delays
 pub mod Edges
 pub mod Bench

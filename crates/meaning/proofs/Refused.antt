@@ -5,10 +5,9 @@ use native.Mathlib.Omega.{arith}
 use native.Mathlib.Decide.{decLe}
 use mathlib.Core.Path.{_≡_, refl, sym, ap, _∙_}
 use mathlib.Core.Logic.{_≢_, _⊎_, inl, inr}
-use mathlib.Core.Bool.{Bool, true, false, cond}
+use mathlib.Core.Bool.{true, false}
 use mathlib.Core.List.{List, [], _++_}
 use lib.ListN.{length, drop}
-use lib.Dec.{ltb}
 use borrow.Author.Tests.{leb-true}
 use Rattle.meaning.specs.Octets.{octet}
 use Rattle.meaning.specs.Checks.{Checks, passed, check, firstFailed, settle}
@@ -19,6 +18,7 @@ use Rattle.meaning.proofs.Lists.{octet-part}
 use Rattle.meaning.proofs.Tests.{every-at, first-passed}
 use Rattle.meaning.proofs.Places.{setClock-length, part-setClock}
 use Rattle.meaning.proofs.Sound.{opened}
+use Rattle.meaning.proofs.Kept.{expired-either}
 use Rattle.meaning.proofs.Accepted.{message-passed, done-room}
 use Rattle.meaning.proofs.Notified.{notification-most}
 
@@ -61,15 +61,14 @@ makeFresh-number m = call-number 1 _ _ m [] (omega arith) (omega arith)
 
 -- 20 and 21 are an expiry's alone
 pub expiry-number : (m : List ℕ) → (expiry m .number ≤ 8) ⊎ ((expiry m .number ≡ 20) ⊎ (expiry m .number ≡ 21))
-unfolding expiry call settle expired expiryChecks
-expiry-number m = go (firstFailed (expiryChecks m)) (first-most 8 (expiryChecks m) (omega arith)) (ltb (expiries m) 4)
+unfolding expiry call settle expiryChecks
+expiry-number m = go (firstFailed (expiryChecks m)) (first-most 8 (expiryChecks m) (omega arith))
   where
-    go : (f : ℕ) → f ≤ 8 → (b : Bool)
-        → let n = settle f (cond b (told 20 (setClock m 1 (expiries m + 1)) []) (told 21 (setClock m 0 0) [])) (λ i. told i m []) .number in
+    go : (f : ℕ) → f ≤ 8
+        → let n = settle f (expired m) (λ i. told i m []) .number in
         (n ≤ 8) ⊎ ((n ≡ 20) ⊎ (n ≡ 21))
-    go zero l true = inr (inl refl)
-    go zero l false = inr (inr refl)
-    go (suc f) l b = inl l
+    go zero l = inr (expired-either (λ o. (o .number ≡ 20) ⊎ (o .number ≡ 21)) m (λ h. inl refl) (inr refl))
+    go (suc f) l = inl l
 
 -- ---- a refusal
 
@@ -106,12 +105,9 @@ unfolding makeFresh
 makeFresh-refused m a = refusal _ _ m [] (inl refl) a (omega (arith, makeFresh-number m))
 
 pub expiry-refused : (m : List ℕ) → 1 ≤ expiry m .number → expiry m .number ≤ 12 → Unchanged (expiry m) m []
-unfolding expiry expired
-expiry-refused m a b = refusal (expiryChecks m) (expired m) m [] (inr (go (ltb (expiries m) 4))) a b
-  where
-    go : (c : Bool) → 12 < cond c (told 20 (setClock m 1 (expiries m + 1)) []) (told 21 (setClock m 0 0) []) .number
-    go true = omega arith
-    go false = omega arith
+unfolding expiry
+expiry-refused m a b =
+    refusal (expiryChecks m) (expired m) m [] (inr (expired-either (λ o. 12 < o .number) m (λ h. omega arith) (omega arith))) a b
 
 -- ---- 20 and 21
 
@@ -130,19 +126,20 @@ clock-others m w n hm i a b =
     apart (no h) = inl (omega arith)
 
 pub expiry-clock : (m : List ℕ) → 12 < expiry m .number → OnlyClock (expiry m) m
-unfolding expiry call settle expired expiryChecks
-expiry-clock m a = go (firstFailed (expiryChecks m)) refl (first-most 8 (expiryChecks m) (omega arith)) a (ltb (expiries m) 4)
+unfolding expiry call settle expiryChecks
+expiry-clock m a = go (firstFailed (expiryChecks m)) refl (first-most 8 (expiryChecks m) (omega arith)) a
   where
     set : sound m ≡ true → (k w n : ℕ) → OnlyClock (told k (setClock m w n) []) m
     set s k w n =
         let hm = opened m s .long in
         record { written = refl; long = setClock-length m w n hm ∙ sym hm; others = clock-others m w n hm }
 
-    go : (f : ℕ) → firstFailed (expiryChecks m) ≡ f → f ≤ 8 → 12 < settle f (expired m) (λ i. told i m []) .number → (b : Bool)
-        → OnlyClock (settle f (cond b (told 20 (setClock m 1 (expiries m + 1)) []) (told 21 (setClock m 0 0) [])) (λ i. told i m [])) m
-    go zero e l h true = set (first-passed 0 _ _ e .0) 20 1 (expiries m + 1)
-    go zero e l h false = set (first-passed 0 _ _ e .0) 21 0 0
-    go (suc f) e l h b = absurd (omega arith)
+    go : (f : ℕ) → firstFailed (expiryChecks m) ≡ f → f ≤ 8 → 12 < settle f (expired m) (λ i. told i m []) .number
+        → OnlyClock (settle f (expired m) (λ i. told i m [])) m
+    go zero e l h =
+        let s = first-passed 0 _ _ e .0 in
+        expired-either (λ o. OnlyClock o m) m (λ _. set s 20 1 (expiries m + 1)) (set s 21 0 0)
+    go (suc f) e l h = absurd (omega arith)
 
 -- ---- the room
 

@@ -8,7 +8,7 @@ use mathlib.Core.Logic.{_≢_, _⊎_, inl, inr}
 use mathlib.Core.Bool.{Bool, true, false, _&&_, _||_, cond, false≢true}
 use mathlib.Core.List.{List, [], _∷_, _++_}
 use lib.ListN.{length, getD}
-use lib.Dec.{eqb, ltb}
+use lib.Dec.{eqb}
 use borrow.Author.Tests.{eqb-true, eq-eqb}
 use Rattle.meaning.specs.Octets.{nonempty}
 use Rattle.meaning.specs.Checks.{firstFailed, settle, passed}
@@ -17,11 +17,11 @@ use Rattle.meaning.specs.Block.{permits}
 use Rattle.meaning.specs.Memory.{present, subscribed, pending, body, store, remark, setClock, sound, expiries}
 use Rattle.meaning.specs.Operation.{Op, capabilities, read, set, subscribe, unsubscribe}
 use Rattle.meaning.specs.Step.{block, commits, permitted, setChecks, stored, setMemory, setAnswer, subscribeMemory, unsubscribeMemory, step, answer, update, after}
-use Rattle.meaning.specs.Calls.{told, isCommand, carriedOut, acknowledged, deed, opsOf, messageChecks, message, differs, localMemory, localChecks, localValue, cleared, buildChecks, build, expired, expiryChecks, expiry}
+use Rattle.meaning.specs.Calls.{isCommand, carriedOut, acknowledged, deed, opsOf, messageChecks, message, differs, localMemory, localChecks, localValue, cleared, buildChecks, build, expired, expiryChecks, expiry}
 use Rattle.meaning.proofs.Tests.{first-passed, first-pass, all-passed}
 use Rattle.meaning.proofs.Places.{listed-place}
 use Rattle.meaning.proofs.Sound.{Sound, opened, put-present-same, put-present-other, put-body-same, put-body-other, present-remark, body-remark, present-setClock, body-setClock}
-use Rattle.meaning.proofs.Kept.{permits-most, stored-permitted, Settable, settable, step-sound, call-memory, cleared-sound, Local, local-opened, local-held, commit-not-port}
+use Rattle.meaning.proofs.Kept.{permits-most, stored-permitted, Settable, settable, step-sound, call-memory, cleared-sound, Local, local-opened, local-held, commit-not-port, expired-either}
 use Rattle.meaning.proofs.Commit.{Commits, commits-spelt, spelt-commits}
 
 -- ---- the statement
@@ -243,9 +243,7 @@ build-running m room s =
     (λ e. same-then (cleared-same entryCount m (omega arith) s) (clock-same c 1 0 (opened c (cleared-sound entryCount m (omega arith) s))))
 
 pub expiry-running : (m : List ℕ) → sound m ≡ true → SameRunning m (expiry m .memory)
-unfolding expiry expired
-expiry-running m s = call-memory (SameRunning m) (expiryChecks m) _ m [] (same-running m) (λ e. go (ltb (expiries m) 4))
-  where
-    go : (b : Bool) → SameRunning m (cond b (told 20 (setClock m 1 (expiries m + 1)) []) (told 21 (setClock m 0 0) []) .memory)
-    go true = clock-same m 1 (expiries m + 1) (opened m s)
-    go false = clock-same m 0 0 (opened m s)
+unfolding expiry
+expiry-running m s =
+    call-memory (SameRunning m) (expiryChecks m) (expired m) m [] (same-running m)
+    (λ e. expired-either (λ o. SameRunning m (o .memory)) m (λ h. clock-same m 1 (expiries m + 1) (opened m s)) (clock-same m 0 0 (opened m s)))

@@ -6,15 +6,15 @@ use mathlib.Core.Path.{_≡_, refl, sym, ap, _∙_}
 use mathlib.Core.Bool.{Bool, true, false}
 use mathlib.Core.List.{List, [], _∷_}
 use lib.ListN.{length}
-use borrow.Author.Tests.{le-leb, lt-ltb, le-ltb}
+use borrow.Author.Tests.{le-leb}
 use Rattle.meaning.specs.Octets.{every, implies, nonempty}
 use Rattle.meaning.specs.Checks.{firstFailed, settle}
 use Rattle.meaning.specs.Table.{entryCount}
 use Rattle.meaning.specs.Memory.{clock, waiting, expiries, setClock, subscribed, pending, sound}
-use Rattle.meaning.specs.Calls.{done, told, call, isCommand, isAcknowledgement, deed, acknowledged, fits, messageChecks, message, reports, notification, cleared, buildChecks, build, expired, expiryChecks, expiry}
+use Rattle.meaning.specs.Calls.{done, told, call, isCommand, isAcknowledgement, deed, acknowledged, fits, messageChecks, message, reports, notification, cleared, buildChecks, build, expiryChecks, expiry}
 use Rattle.meaning.proofs.Places.{clock-setClock, cell-setClock}
 use Rattle.meaning.proofs.Sound.{Sound, opened}
-use Rattle.meaning.proofs.Kept.{cleared-sound}
+use Rattle.meaning.proofs.Kept.{cleared-sound, expired-again, expired-last}
 use Rattle.meaning.proofs.Marks.{remark-marks, remark-marks-other}
 
 -- what the clock says
@@ -43,12 +43,12 @@ acknowledged-clock m room s w h = rw (acknowledged-idle m room s w h) (clock-idl
 -- ---- expiries: 1 to 4 send again, the fifth gives up
 
 pub expiry-again : (m : List ℕ) → sound m ≡ true → waiting m ≡ true → expiries m < 4 → expiry m ≡ told 20 (setClock m 1 (expiries m + 1)) []
-unfolding expiry call settle expiryChecks firstFailed expired
-expiry-again m s w h = simp (s, w, lt-ltb (expiries m) 4 h)
+unfolding expiry call settle expiryChecks firstFailed
+expiry-again m s w h = simp (s, w) (expired-again m h)
 
 pub expiry-given-up : (m : List ℕ) → sound m ≡ true → waiting m ≡ true → 4 ≤ expiries m → expiry m ≡ told 21 (setClock m 0 0) []
-unfolding expiry call settle expiryChecks firstFailed expired
-expiry-given-up m s w h = simp (s, w, le-ltb (expiries m) 4 h)
+unfolding expiry call settle expiryChecks firstFailed
+expiry-given-up m s w h = simp (s, w) (expired-last m h)
 
 pub again-clock : (m : List ℕ) → sound m ≡ true → waiting m ≡ true → expiries m < 4 → Clock (expiry m .memory) true (expiries m + 1)
 again-clock m s w h = rw (expiry-again m s w h) (clock-waits m (expiries m + 1) (opened m s))

@@ -7,8 +7,8 @@ use second::program;
 use second::traffic::{self, Kind};
 
 const USAGE: &str = "usage: traffic KIND SEED COUNT; KIND is frames, mixed or empty (for \
-bridge) or script (for rig), SEED the number that the stream follows from, COUNT how many frames \
-or records it has";
+bridge), script or calls (for rig), SEED the number that the stream follows from, COUNT how many \
+frames or records it has";
 
 fn main() -> ExitCode {
     let arguments = program::arguments();

@@ -30,6 +30,8 @@ pub enum Kind {
     Empty,
     /// Records for `rig`.
     Script,
+    /// Records for `rig` that make more calls than they lend and show, to be stored.
+    Calls,
 }
 
 impl FromStr for Kind {
@@ -41,8 +43,9 @@ impl FromStr for Kind {
             "mixed" => Ok(Kind::Mixed),
             "empty" => Ok(Kind::Empty),
             "script" => Ok(Kind::Script),
+            "calls" => Ok(Kind::Calls),
             _ => Err(format!(
-                "KIND is frames, mixed, empty or script, not {word:?}"
+                "KIND is frames, mixed, empty, script or calls, not {word:?}"
             )),
         }
     }
@@ -61,7 +64,8 @@ pub fn write<W: Write>(kind: Kind, seed: u64, count: u64, sink: &mut W) -> io::R
         Kind::Frames => write_frames(&mut dice, count, sink),
         Kind::Mixed => measured::mixed(&mut dice, count, sink),
         Kind::Empty => measured::empty(&mut dice, count, sink),
-        Kind::Script => script::write(&mut dice, count, sink),
+        Kind::Script => script::write(&mut dice, script::OFTEN, count, sink),
+        Kind::Calls => script::write(&mut dice, script::SELDOM, count, sink),
     }
 }
 

@@ -27,11 +27,42 @@ const DELAYS: [u64; 8] = [
     u64::MAX,
 ];
 
+/// How often a script does what makes it long.
+#[derive(Clone, Copy)]
+pub struct Pace {
+    /// Kinds of scenes to choose from. Those from 22 on lend memory or make it fresh.
+    scenes: usize,
+    /// Memory is shown after one call in so many.
+    memory: usize,
+    /// The room is shown after one call in so many.
+    room: usize,
+    /// A message has an ample room once in so many times, else mostly one about as long as its
+    /// reply.
+    ample: usize,
+}
+
+/// Lends and shows as often as calls are made.
+pub const OFTEN: Pace = Pace {
+    scenes: 26,
+    memory: 3,
+    room: 3,
+    ample: 2,
+};
+
+/// Makes more calls than it lends and shows, and shows memory more often than rooms.
+pub const SELDOM: Pace = Pace {
+    scenes: 23,
+    memory: 5,
+    room: 36,
+    ample: 3,
+};
+
 /// Writes a script of `count` records.
-pub fn write<W: Write>(dice: &mut Dice, count: u64, sink: &mut W) -> io::Result<()> {
+pub fn write<W: Write>(dice: &mut Dice, pace: Pace, count: u64, sink: &mut W) -> io::Result<()> {
     let cut = dice.one_in(CUT_STREAMS);
     let mut script = Script {
         dice,
+        pace,
         rig: Rig::new(Lines::new(io::sink())),
         sink,
         left: count,
@@ -45,6 +76,7 @@ pub fn write<W: Write>(dice: &mut Dice, count: u64, sink: &mut W) -> io::Result<
 
 struct Script<'a, W> {
     dice: &'a mut Dice,
+    pace: Pace,
     rig: Rig<Sink>,
     sink: &'a mut W,
     left: u64,
@@ -54,7 +86,7 @@ struct Script<'a, W> {
 impl<W: Write> Script<'_, W> {
     /// One scene. Memory is sound before it and after it.
     fn scene(&mut self) -> io::Result<()> {
-        match self.dice.below(26) {
+        match self.dice.below(self.pace.scenes) {
             0..=12 => self.message(),
             13..=14 => self.local_value(),
             15..=18 => self.report(),
@@ -95,7 +127,7 @@ impl<W: Write> Script<'_, W> {
 
     /// A room size, often one around the length of the reply.
     fn room_for(&mut self, message: &[u8]) -> usize {
-        if self.dice.one_in(2) {
+        if self.dice.one_in(self.pace.ample) {
             return AMPLE;
         }
         let mut room = [0; AMPLE];
@@ -196,10 +228,14 @@ impl<W: Write> Script<'_, W> {
         }
     }
 
-    /// Shows memory and room often.
+    /// Shows memory and room, as often as the pace has it.
     fn show(&mut self) -> io::Result<()> {
-        for code in [code::SHOW_MEMORY, code::SHOW_ROOM] {
-            if self.dice.one_in(3) {
+        let often = [
+            (code::SHOW_MEMORY, self.pace.memory),
+            (code::SHOW_ROOM, self.pace.room),
+        ];
+        for (code, calls) in often {
+            if self.dice.one_in(calls) {
                 self.record(code, &[])?;
             }
         }

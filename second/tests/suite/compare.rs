@@ -106,6 +106,7 @@ fn traffic_writes_what_comparisons_use() {
         ("mixed", second::traffic::Kind::Mixed),
         ("empty", second::traffic::Kind::Empty),
         ("script", second::traffic::Kind::Script),
+        ("calls", second::traffic::Kind::Calls),
     ] {
         let output = run(TRAFFIC, &[word, "18446744073709551615", "300"], &[]);
         assert!(output.status.success());

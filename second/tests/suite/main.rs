@@ -16,5 +16,6 @@ mod samples;
 mod sound;
 mod soundness;
 mod stored;
+mod stored_script;
 mod subscriptions;
 mod traffic;

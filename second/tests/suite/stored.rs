@@ -12,14 +12,27 @@ use crate::traffic::pieces;
 /// The example of the rules.
 const EXAMPLE: &str = "0003010003 0006010003020003 0000";
 
-fn stored(part: &str) -> Vec<u8> {
-    let folder = concat!(env!("CARGO_MANIFEST_DIR"), "/../crates/bridge");
-    fs::read(format!("{folder}/{part}")).unwrap()
+/// What is stored in the folder of a proved program.
+pub fn stored(program: &str, part: &str) -> Vec<u8> {
+    let crates = concat!(env!("CARGO_MANIFEST_DIR"), "/../crates");
+    fs::read(format!("{crates}/{program}/{part}")).unwrap()
+}
+
+/// Asserts that the second program at `path` prints what is stored with the proved one.
+pub fn assert_prints(path: &str, program: &str) {
+    let output = run(path, &[], &stored(program, "stdin"));
+    assert!(output.status.success());
+    assert_eq!(text(&output.stderr), "");
+    let (printed, stored) = (text(&output.stdout), stored(program, "stdout"));
+    for (at, (printed, stored)) in (1..).zip(printed.lines().zip(text(&stored).lines())) {
+        assert_eq!(printed, stored, "line {at}");
+    }
+    assert!(output.stdout == stored, "the number of lines");
 }
 
 /// The stored lines, as numbers and replies, without the last, which is `cut`.
 fn answers() -> Vec<(u8, Vec<u8>)> {
-    let stdout = stored("stdout");
+    let stdout = stored("bridge", "stdout");
     let lines = text(&stdout).strip_suffix("\ncut\n").unwrap().lines();
     let answer = |line: &str| {
         let (number, reply) = line.split_once(' ').unwrap();
@@ -30,14 +43,7 @@ fn answers() -> Vec<(u8, Vec<u8>)> {
 
 #[test]
 fn the_second_bridge_prints_the_stored_lines() {
-    let output = run(BRIDGE, &[], &stored("stdin"));
-    assert!(output.status.success());
-    assert_eq!(text(&output.stderr), "");
-    let (printed, stored) = (text(&output.stdout), stored("stdout"));
-    for (at, (printed, stored)) in (1..).zip(printed.lines().zip(text(&stored).lines())) {
-        assert_eq!(printed, stored, "line {at}");
-    }
-    assert!(output.stdout == stored, "the number of lines");
+    assert_prints(BRIDGE, "bridge");
 }
 
 /// The README has the command line that made it. Where `traffic` changes, both files are made anew.
@@ -48,9 +54,10 @@ fn the_stored_stream_follows_from_its_seeds() {
         stream(Kind::Mixed, 1, 200),
         stream(Kind::Frames, 42_582, 350),
     ];
-    assert!(stored("stdin") == parts.concat());
-    assert!(stored("stdin").len() < 150_000);
-    let frames = pieces(&stored("stdin"), 2);
+    let stdin = stored("bridge", "stdin");
+    assert!(stdin == parts.concat());
+    assert!(stdin.len() < 150_000);
+    let frames = pieces(&stdin, 2);
     let lengths: BTreeSet<usize> = frames.iter().map(|(_, message)| message.len()).collect();
     let edges = BTreeSet::from([0, 1, 2_048, 2_049, 65_535]);
     assert!(lengths.is_superset(&edges), "{lengths:?}");

@@ -57,16 +57,33 @@ fn scripts_reach_every_number() {
 
 #[test]
 fn records_show_memory_and_room_often() {
-    let mut codes = [0_usize; 9];
+    let codes = codes(Kind::Script);
+    assert!(codes.iter().all(|count| *count > 300), "{codes:?}");
+    assert!(codes[6] > 5_000 && codes[7] > 5_000, "{codes:?}");
+}
+
+/// How often each code occurs in some scripts.
+fn codes(kind: Kind) -> [usize; 9] {
+    let mut codes = [0; 9];
     for seed in 1..=SCRIPTS {
-        for (head, _) in pieces(&stream(Kind::Script, seed, RECORDS), 3) {
+        for (head, _) in pieces(&stream(kind, seed, RECORDS), 3) {
             if let Some(count) = codes.get_mut(usize::from(head[0])) {
                 *count += 1;
             }
         }
     }
+    codes
+}
+
+/// The stored script of the rig has them.
+#[test]
+fn calls_are_made_more_often_than_shown() {
+    let codes = codes(Kind::Calls);
+    let calls: usize = codes[..5].iter().sum();
+    assert!(calls as u64 > SCRIPTS * RECORDS * 7 / 10, "{codes:?}");
     assert!(codes.iter().all(|count| *count > 300), "{codes:?}");
-    assert!(codes[6] > 5_000 && codes[7] > 5_000, "{codes:?}");
+    assert!((calls / 6..calls / 4).contains(&codes[6]), "{codes:?}");
+    assert!(codes[7] < codes[6] / 5, "{codes:?}");
 }
 
 /// What the frames of a stream have shown.
@@ -226,7 +243,7 @@ fn empty_frames_follow_one_that_fills_memory() {
 }
 
 /// Plays a script on a bench and shows each message, with its room, to `watch` before it is sent.
-fn play(script: &[u8], mut watch: impl FnMut(&Bench, &[u8], usize)) {
+pub fn play(script: &[u8], mut watch: impl FnMut(&Bench, &[u8], usize)) {
     let mut bench = Bench::fresh();
     let number = |body: &[u8]| u16::from_be_bytes([body[0], body[1]]);
     for (head, body) in pieces(script, 3) {
@@ -297,10 +314,12 @@ fn streams_follow_from_their_seed_alone() {
     };
     assert_ne!(digest(Kind::Frames, 1), digest(Kind::Frames, 2));
     assert_ne!(digest(Kind::Script, 1), digest(Kind::Script, 2));
+    assert_ne!(digest(Kind::Calls, 1), digest(Kind::Calls, 2));
     assert_ne!(digest(Kind::Mixed, 1), digest(Kind::Mixed, 2));
     assert_ne!(digest(Kind::Empty, 1), digest(Kind::Empty, 2));
     assert_eq!(digest(Kind::Frames, 1), 0x5399_F764_69FC_26DD);
     assert_eq!(digest(Kind::Mixed, 1), 0x8F2D_1544_4C08_A106);
     assert_eq!(digest(Kind::Empty, 1), 0xD944_AA8A_A327_8099);
     assert_eq!(digest(Kind::Script, 1), 0x5C7C_E4AA_7143_8DF6);
+    assert_eq!(digest(Kind::Calls, 1), 0xB19E_8A59_EAD6_3FC2);
 }
