@@ -22,6 +22,7 @@ pub mod Refused
 pub mod Numbers
 pub mod Timer
 pub mod Sendings
+pub mod Longest
 pub mod Delays
 pub mod Edges
 pub mod Bench
