@@ -1,6 +1,24 @@
-// The endpoint of a port: what a host calls. A call is lent the port's memory, 2,100 octets that the host keeps, and where
-// there is one the room for a reply. Any lengths and any octets may be lent: a call that refuses them says so by its
-// outcome and changes nothing. What a call answers and what it leaves in each lent octet is a definition of `meaning`.
+// The endpoint of a port: all that a host calls.
+//
+// The host keeps one port's memory, 2,100 octets, and lends it to each call; where a call writes, it is lent a room as
+// well. Nothing else is kept between calls, so whoever saves those octets has saved the port. Any lengths and any octets
+// may be lent, in any order of calls: each call ends, and one that refuses changes no lent octet.
+//
+//   make_fresh    before the first use, and to begin anew: it asks for the length alone, so it also mends unsound memory
+//   message       for each message that comes; a room of 4,096 octets takes every reply, which is then to be sent
+//   local_value   when the port learns a value of its own, or learns that it has none
+//   build         when there may be something to report; a room of 1,600 octets always serves. What it writes is to be
+//                 sent and kept, and the host starts its timer
+//   expiry        when that timer runs out: SendAgain has the kept octets sent again and the timer started anew, GivenUp
+//                 drops them. An acknowledgement that `message` answers with the reply 05 stops the timer
+//   delay_octets  a delay in nanoseconds as the value that `local_value` takes for it
+//
+// The five calls answer in one way, by an `Outcome`: done, with the length of what now stands at the room's start, or why
+// nothing was done. `number` gives the rules' number of it and `written` that length. The conversion refuses nothing and
+// is lent nothing, so it gives the octets themselves.
+//
+// No call asks for anything: none has a `requires`. Each contract says by a definition of `meaning` under the call's name
+// what is answered and what every lent octet holds afterwards, and allows one outcome alone (`one-outcome`, in `Told`).
 ghost use Prim.Native.Nat.{_≤_};
 ghost use mathlib.Core.Path.{_≡_};
 ghost use mathlib.Core.Bool.{true};
@@ -14,8 +32,8 @@ ghost use Rattle.meaning.specs.Calls.{message, localValue, build, expiry, makeF
 ghost use Rattle.endpoint.specs.Outcomes.{numberOf, lengthOf, Gives, acknowledgement, command};
 use delay::Nanoseconds;
 
-// What a call answers: done, with the length of what it wrote, or why nothing was done. A waiting notification is to be
-// sent again, or has been given up.
+// What a call answers: done, with the length of what it wrote; twelve reasons why nothing was done; that a waiting
+// notification is to be sent again, or has been given up.
 pub enum Outcome {
     Done(usize),
     MemoryUnsound,
