@@ -1,4 +1,3 @@
 -- Laws that the proofs of `reply` share.
-pub mod Spelling
-pub mod Loop
+
 pub mod Parts

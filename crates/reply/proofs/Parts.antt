@@ -5,8 +5,8 @@ use mathlib.Core.Path.{_≡_, refl, sym, ap, _∙_}
 use mathlib.Core.Logic.{_≢_}
 use mathlib.Core.Bool.{Bool, true, _||_, cond}
 use mathlib.Core.List.{List, [], _∷_, _++_, append-nil, append-assoc}
-use lib.ListN.{length, drop}
 use lib.Dec.{eqb}
+use lib.ListN.{length, drop}
 use borrow.Author.Tests.{ne-eqb, leb-true}
 use Rattle.meaning.specs.Octets.{be16, flat, nonempty}
 use Rattle.meaning.specs.Operation.{parse, orNone}
@@ -22,9 +22,10 @@ use Rattle.tally.specs.declared.Tally.{Tally}
 use Rattle.tally.specs.Tallies as tallies
 use Rattle.tally.specs.Tallies.{tallyOf, readOctets, setOctets, elementLength, replyLength, tallyFits}
 use Rattle.tally.proofs.Lengths.{tally-fits, any-read, any-set, read-octets, set-octets, values-count, readErrors-count, updates-count, updateErrors-count, longUpdates-count, longUpdates-octets}
-use Rattle.reply.specs.declared.Kind.{Kind}
-use Rattle.reply.specs.declared.Kind.the-variants.{Values, ReadErrors, Updates, UpdateErrors, LongUpdates}
-use Rattle.reply.specs.Sections.{section, order, countOf, opening, further, longLength, front, piece, recordsOf, Ready, Fitting}
+use Rattle.section.specs.declared.Kind.{Kind}
+use Rattle.section.specs.declared.Kind.the-variants.{Values, ReadErrors, Updates, UpdateErrors, LongUpdates}
+use Rattle.section.specs.Kinds.{section, recordsOf}
+use Rattle.reply.specs.Sections.{order, countOf, opening, further, longLength, front, piece, Ready, Fitting}
 
 -- ---- what is asked of a reply
 

@@ -1,29 +1,22 @@
--- A reply by its kinds of record: their octets, how many there are, what stands before them, and what is known where a reply is written.
+-- A reply by its kinds of record: how many there are, what stands before them, and what is known where a reply is written.
 use Prim.Native.Nat.{ℕ, _+_, _≤_}
 use mathlib.Core.Path.{_≡_}
 use mathlib.Core.Bool.{Bool, true, cond}
 use mathlib.Core.List.{List, [], _∷_, _++_}
-use lib.ListN.{length}
 use lib.Dec.{eqb}
-use Rattle.meaning.specs.Octets.{be16, flat}
+use lib.ListN.{length}
+use Rattle.meaning.specs.Octets.{be16}
 use Rattle.meaning.specs.Memory.{sound}
 use Rattle.meaning.specs.Operation.{parse, isSome, orNone}
 use Rattle.meaning.specs.Step.{after}
-use Rattle.meaning.specs.Reply.{Records, heldOctets, shortOctets, failedOctets}
+use Rattle.meaning.specs.Reply.{Records}
 use Rattle.meaning.specs.Calls.{records}
 use Rattle.tally.specs.declared.Count.{Count}
 use Rattle.tally.specs.declared.Tally.{Tally}
 use Rattle.tally.specs.Tallies.{tallyOf, readOctets, setOctets, anyRead, anySet, tallyFits, Below}
-use Rattle.reply.specs.declared.Kind.{Kind}
-use Rattle.reply.specs.declared.Kind.the-variants.{Values, ReadErrors, Updates, UpdateErrors, LongUpdates}
-
--- the octets of the records of a kind
-unfoldable pub section : Kind → Records → List ℕ
-section Values r = flat heldOctets (r .values)
-section ReadErrors r = flat failedOctets (r .readErrors)
-section Updates r = flat shortOctets (r .updates)
-section UpdateErrors r = flat failedOctets (r .updateErrors)
-section LongUpdates r = flat heldOctets (r .longUpdates)
+use Rattle.section.specs.declared.Kind.{Kind}
+use Rattle.section.specs.declared.Kind.the-variants.{Values, ReadErrors, Updates, UpdateErrors, LongUpdates}
+use Rattle.section.specs.Kinds.{section, recordsOf}
 
 -- the kinds in the order of a reply
 abbrev pub order : List Kind
@@ -62,10 +55,6 @@ abbrev pub piece : Records → Kind → List ℕ
 piece r k = front k (tallyOf r) ++ section k r
 
 -- ---- what the code asks
-
--- the records of a list of operations, carried out on m
-abbrev pub recordsOf : List ℕ → List ℕ → Records
-recordsOf m list = records m (orNone (parse list))
 
 -- sound memory, a whole list, and the copy that its operations have left
 abbrev pub Ready : List ℕ → List ℕ → List ℕ → Type 0

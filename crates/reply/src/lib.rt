@@ -1,110 +1,21 @@
-// A reply's sections, each written at its place once the tally says that all of it fits. For each kind of record that
-// there is, the working copy is filled anew and the operations run again, so no record is kept anywhere but in the room.
+// A reply written once the tally says that all of it fits: the names, then the kinds of record one after another, each
+// behind its head and its count.
 ghost use Prim.Native.Nat.{_+_, _≤_, _<_};
 ghost use mathlib.Core.Path.{_≡_};
 ghost use mathlib.Core.Logic.{_≢_};
 ghost use mathlib.Core.Bool.{true};
 ghost use mathlib.Core.List.{_∷_, _++_};
 ghost use lib.ListN.{length, drop};
-ghost use Rattle.meaning.specs.Table.{memoryLength, entryCount};
-ghost use Rattle.meaning.specs.Memory.{sound};
-ghost use Rattle.meaning.specs.Operation.{parse, isSome, orNone};
-ghost use Rattle.meaning.specs.Step.{shown, after};
-ghost use Rattle.meaning.specs.Reply.{recordOf, heldOctets, allNames, element, complete};
-ghost use Rattle.operation.specs.Handing.{Inside};
+ghost use Rattle.meaning.specs.Operation.{parse, orNone};
+ghost use Rattle.meaning.specs.Step.{after};
+ghost use Rattle.meaning.specs.Reply.{allNames, element, complete};
 ghost use Rattle.records.specs.Writing.{Wrote};
-ghost use Rattle.command.specs.Answers.{answerOf, Told};
 ghost use Rattle.tally.specs.Tallies.{tallyFits, Below};
-ghost use Rattle.reply.specs.Sections.{section, order, countOf, opening, further, longLength, front, piece, recordsOf, Ready, Fitting};
-use command::Answer;
-use operation::Handed;
-use operation::Op;
+ghost use Rattle.section.specs.Kinds.{section, recordsOf};
+ghost use Rattle.reply.specs.Sections.{order, countOf, opening, further, longLength, front, piece, Ready, Fitting};
+use section::Kind;
 use tally::Count;
 use tally::Tally;
-
-// The kinds of record that a reply holds, in its order.
-pub enum Kind {
-    Values,
-    ReadErrors,
-    Updates,
-    UpdateErrors,
-    LongUpdates,
-}
-
-// The value that a read of a place shows: for 8001 the two sums of the running block.
-fn write_value(m: &[u8], k: usize, name: usize, out: &mut [u8], at: usize) -> usize
-    requires { ⌜ (length (now m) ≡ memoryLength) × (k < entryCount) × (name < 65536) × (at + length (heldOctets (record { name = name; value = shown (now m) k })) ≤ length (now out)) ⌝ }
-    ensures { λ r. ⌜ Wrote (now (out .entry)) at (heldOctets (record { name = name; value = shown (now (m .entry)) k })) r (now (out .exit)) ⌝ }
-{
-    let v = memory::body(m, k);
-    if k != table::COMMIT {
-        return records::write_held(out, at, name, v);
-    }
-    let mut sums = [0u8; 4];
-    schedule::write_sums(v, &mut sums);
-    records::write_held(out, at, name, &sums)
-}
-
-// The record of an answer to an operation, where it is of the kind asked for; the place after it.
-fn spell(m: &[u8], list: &[u8], op: Op, a: Answer, kind: Kind, out: &mut [u8], at: usize) -> usize
-    requires { ⌜ (length (now m) ≡ memoryLength) × (length (now list) ≤ 2048) × Inside (length (now list)) op × Told a × (at + length (section kind (recordOf (answerOf (now m) (now list) op a))) ≤ length (now out)) ⌝ }
-    ensures { λ r. ⌜ Wrote (now (out .entry)) at (section kind (recordOf (answerOf (now (m .entry)) (now (list .entry)) op a))) r (now (out .exit)) ⌝ }
-{
-    let name = operation::name_of(op);
-    let from = operation::from_of(op);
-    let size = operation::size_of(op);
-    match kind {
-        Kind::Values => match a {
-            Answer::Value(k) => write_value(m, k, name, out, at),
-            _ => at,
-        },
-        Kind::ReadErrors => match a {
-            Answer::ReadError(cause) => records::write_failed(out, at, name, cause),
-            _ => at,
-        },
-        Kind::Updates => {
-            let Answer::Update = a else {
-                return at;
-            };
-            if 255 < size {
-                return at;
-            }
-            records::write_short(out, at, name, &list[from..from + size])
-        }
-        Kind::UpdateErrors => match a {
-            Answer::UpdateError(cause) => records::write_failed(out, at, name, cause),
-            _ => at,
-        },
-        Kind::LongUpdates => {
-            let Answer::Update = a else {
-                return at;
-            };
-            if size <= 255 {
-                return at;
-            }
-            records::write_held(out, at, name, &list[from..from + size])
-        }
-    }
-}
-
-// All records of a kind. The copy is lent as the memory is, and holds afterwards what the operations leave.
-fn write_section(list: &[u8], kind: Kind, copy: &mut [u8], out: &mut [u8], at: usize) -> usize
-    requires { ⌜ (sound (now copy) ≡ true) × (isSome (parse (now list)) ≡ true) × (length (now list) ≤ 2048) × (at + length (section kind (recordsOf (now copy) (now list))) ≤ length (now out)) ⌝ }
-    ensures { λ _. ⌜ now (copy .exit) ≡ after (now (copy .entry)) (orNone (parse (now (list .entry)))) ⌝ }
-    ensures { λ r. ⌜ Wrote (now (out .entry)) at (section kind (recordsOf (now (copy .entry)) (now (list .entry)))) r (now (out .exit)) ⌝ }
-{
-    let mut end = at;
-    let mut from: usize = 0;
-    loop {
-        let h = operation::hand_out(list, from);
-        let Handed::Operation(op, next) = h else {
-            return end;
-        };
-        let a = command::carry_out(copy, list, op);
-        end = spell(copy, list, op, a, kind, out, end);
-        from = next;
-    }
-}
 
 // The head of an element, where it is needed, and the count of its first records.
 fn write_opening(needed: bool, id: u8, n: usize, count: usize, out: &mut [u8], at: usize) -> usize
@@ -197,7 +108,7 @@ fn write_kind(
         return start;
     }
     bytes::copy(m, copy);
-    write_section(list, kind, copy, out, start)
+    section::write(list, kind, copy, out, start)
 }
 
 // Element 70, where the names are asked.

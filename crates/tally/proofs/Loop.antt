@@ -1,67 +1,34 @@
 -- The loop that takes a tally: what is known before each turn, and what a turn adds.
-use Prim.Native.Nat.{ℕ, _+_, _*_, _≤_, _<_}
+use Prim.Native.Nat.{ℕ, _+_, _*_, _≤_}
 use native.Mathlib.Omega.{arith}
 use types.Run.{OneOf}
-use mathlib.Core.Path.{_≡_, refl, sym, _∙_}
-use mathlib.Core.Logic.{_≢_}
+use mathlib.Core.Path.{_≡_, sym, _∙_}
 use mathlib.Core.Bool.{Bool, true, false, cond}
 use mathlib.Core.List.{List, [], _∷_}
-use lib.ListN.{length, length-take}
-use lib.Dec.{eqb, leb}
+use lib.Dec.{leb}
+use lib.ListN.{length}
 use denote.Enum.Declared.{tagOf}
-use borrow.Author.Tests.{leb-true, eq-eqb, ne-eqb}
-use Rattle.meaning.specs.Octets.{be16, part, flat, below}
-use Rattle.meaning.specs.Table.{entryCount, rows, rowAt, commit}
-use Rattle.meaning.specs.Block.{sums}
-use Rattle.meaning.specs.Memory.{body, room, sound}
+use Rattle.meaning.specs.Octets.{be16, part, flat}
+use Rattle.meaning.specs.Memory.{sound}
 use Rattle.meaning.specs.Operation.{parse, isSome}
 use Rattle.meaning.specs.Step.{step, answer, answers, after, shown}
 use Rattle.meaning.specs.Reply.{kinds, held, recordOf, gathered, failedOctets}
 use Rattle.meaning.specs.Calls.{records}
 use Rattle.meaning.proofs.Lists.{length-part}
-use Rattle.meaning.proofs.Tests.{below-at}
 use Rattle.operation.specs.declared.Op.{Op}
 use Rattle.operation.specs.declared.Handed.{Handed}
 use Rattle.operation.specs.declared.Handed.the-variants.{Operation}
-use Rattle.operation.proofs.Handed.{the-type}
 use Rattle.operation.specs.Handing.{opOf, nameOf, fromOf, sizeOf, Inside}
+use Rattle.operation.proofs.Handed.{the-type}
 use Rattle.operation.proofs.Turns.{HandsOut, inside-value}
 use Rattle.command.specs.declared.Answer.{Answer}
 use Rattle.command.specs.declared.Answer.the-variants.{Names, Value, ReadError, Update, UpdateError, Silent}
 use Rattle.command.specs.Answers.{answerOf, Told}
+use Rattle.command.proofs.Shown.{shown-short}
 use Rattle.command.proofs.Walk.{Under, rest, under-start, under-end, under-ahead, under-rest, under-turn}
 use Rattle.tally.specs.declared.Tally.{Tally}
 use Rattle.tally.specs.Tallies.{plus, noCount, noTally, tallyOf, Small, Below, Adds}
 use Rattle.tally.proofs.Plus.{held-octets, short-octets, Light, plus-joined, plus-below, below-more, silent-added}
-
--- ---- the octets that a read shows
-
-rooms-short : below entryCount (λ k. leb (rowAt k .most) 470) ≡ true
-unfolding below rowAt rows
-rooms-short = refl
-
-pub shown-short : (m : List ℕ) (k : ℕ) → k < entryCount → length (shown m k) ≤ 470
-unfolding shown body room part sums be16
-shown-short m k h = go (eqb k commit)
-  where
-    most : rowAt k .most ≤ 470
-    most = leb-true _ _ (below-at entryCount (λ k. leb (rowAt k .most) 470) rooms-short k h)
-
-    go : (b : Bool) → length (cond b (sums (body m commit)) (body m k)) ≤ 470
-    go true = omega arith
-    go false = simp length-take (omega (arith, most))
-
-pub shown-commit : (m : List ℕ) (k : ℕ) → k ≡ commit → length (shown m k) ≡ 4
-unfolding shown sums be16
-shown-commit m k e = rw (eq-eqb k commit e)
-
-pub shown-sums : (m : List ℕ) (k : ℕ) → k ≡ commit → shown m k ≡ sums (body m k)
-unfolding shown
-shown-sums m k e = rw e
-
-pub shown-value : (m : List ℕ) (k : ℕ) → k ≢ commit → shown m k ≡ body m k
-unfolding shown
-shown-value m k e = rw (ne-eqb k commit e)
 
 -- ---- what a turn adds
 

@@ -1,5 +1,4 @@
 -- `reply::kind_at` meets its contract.
-
 use native.Mathlib.Omega.{arith}
 use mathlib.Core.Path.{_≡_}
 use Rattle.reply.proofs.kind_at.Statement.{statement}

@@ -9,7 +9,8 @@ use Rattle.meaning.specs.Reply.{Records, complete}
 use Rattle.records.proofs.Pieces.{Left, left-start, left-as, first-fits, left-fits, left-next, left-none, left-last, at-start}
 use Rattle.tally.specs.declared.Tally.{Tally}
 use Rattle.tally.proofs.Lengths.{asked-names}
-use Rattle.reply.specs.Sections.{piece, recordsOf}
+use Rattle.section.specs.Kinds.{recordsOf}
+use Rattle.reply.specs.Sections.{piece}
 use Rattle.reply.proofs.Parts.{fits-of, fitting-same, pieces, type-fits, names-fit, after-names, next-piece, no-piece}
 use Rattle.reply.proofs.write.Statement.{statement}
 use Rattle.reply.proofs.write.Tie as tie

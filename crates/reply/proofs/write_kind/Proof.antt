@@ -12,8 +12,9 @@ use Rattle.octets.proofs.Splices.{copied-whole}
 use Rattle.records.proofs.Pieces.{Left, wrote-this, left-start, first-fits, left-fits, left-next, left-none, left-last}
 use Rattle.command.proofs.Sets.{long-of}
 use Rattle.tally.specs.Tallies.{tallyOf}
-use Rattle.reply.specs.declared.Kind.{Kind}
-use Rattle.reply.specs.Sections.{section, countOf, front, piece, recordsOf}
+use Rattle.section.specs.declared.Kind.{Kind}
+use Rattle.section.specs.Kinds.{section, recordsOf}
+use Rattle.reply.specs.Sections.{countOf, front, piece}
 use Rattle.reply.proofs.Parts.{copy-long, count-none}
 use Rattle.reply.proofs.write_kind.Statement.{statement}
 use Rattle.reply.proofs.write_kind.Tie as tie
@@ -68,8 +69,8 @@ copy-requires c κs =
     let s = c .before .before .before .before .before .before .before .before .before .before .before in
     omega (arith, long-of _ (s .pre .0 .0), copy-long _ _ _ (s .pre .0))
 
-write-section-requires : tie.Need-write-section-requires
-write-section-requires c κs =
+write-requires : tie.Need-write-requires
+write-requires c κs =
     let s = c .before .before .before .before .before .before .before .before .before .before .before .before .before .before .before .before in
     rw (copied (c .before .before .before .before)) (s .pre .0 .0, s .pre .0 .1, s .pre .0 .2, left-fits (fronted (c .before .before .before .before .before .before .before .before .before .before)))
 
@@ -83,7 +84,7 @@ returns-2 : tie.Need-returns-2
 returns-2 c =
     let a = c .before .before .before .before .before .before .before .before .before .before .before .before .before .before .before .before .before .before .before .before .before .args in
     let e = copied (c .before .before .before .before .before .before .before .before .before) in
-    let w = c .before .before .before .before .write-section .ensures in
+    let w = c .before .before .before .before .write .ensures in
     (w .0 ∙ ap (λ (m : List ℕ). after m (orNone (parse (a .list .now)))) e, left-last (fronted (c .before .before .before .before .before .before .before .before .before .before .before .before .before .before .before)) (rw e at (w .1)))
 
 pub write-kind-spec : {M : Type 1} → statement M
@@ -95,7 +96,7 @@ write-kind-spec =
     same-length
     returns
     copy-requires
-    write-section-requires
+    write-requires
     same-length-2
     same-length-3
     returns-2)

@@ -2,8 +2,8 @@
 use native.Mathlib.Omega.{arith}
 use mathlib.Core.Path.{_≡_, refl, ap}
 use lib.ListN.{length}
-use borrow.Author.Tests.{ne-eqb}
 use borrow.Author.Needs.{needs}
+use borrow.Author.Tests.{ne-eqb}
 use Rattle.meaning.specs.Octets.{be16}
 use Rattle.records.proofs.Pieces.{wrote-none, wrote-this}
 use Rattle.reply.specs.Sections.{longLength}

@@ -5,7 +5,7 @@ use lib.ListN.{length}
 use borrow.Author.Needs.{needs}
 use Rattle.meaning.specs.Memory.{body}
 use Rattle.meaning.specs.Step.{shown}
-use Rattle.tally.proofs.Loop.{shown-commit, shown-value, shown-short}
+use Rattle.command.proofs.Shown.{shown-commit, shown-value, shown-short}
 use Rattle.tally.proofs.shown_length.Statement.{statement}
 use Rattle.tally.proofs.shown_length.Tie as tie
 

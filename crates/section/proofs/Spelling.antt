@@ -5,8 +5,8 @@ use types.Run.{OneOf, miss}
 use mathlib.Core.Path.{_≡_, refl}
 use mathlib.Core.Bool.{Bool, true, false, cond}
 use mathlib.Core.List.{List, [], _∷_, append-nil}
-use lib.ListN.{length}
 use lib.Dec.{leb}
+use lib.ListN.{length}
 use denote.Enum.Declared.{tagOf}
 use borrow.Author.Tests.{le-leb, lt-leb}
 use Rattle.meaning.specs.Octets.{part, flat}
@@ -17,11 +17,11 @@ use Rattle.operation.specs.declared.Op.{Op}
 use Rattle.operation.specs.Handing.{nameOf, fromOf, sizeOf}
 use Rattle.command.specs.declared.Answer.{Answer}
 use Rattle.command.specs.declared.Answer.the-variants.{Names, Value, ReadError, Update, UpdateError, Silent}
-use Rattle.command.proofs.Answer.{the-type}
 use Rattle.command.specs.Answers.{answerOf}
-use Rattle.reply.specs.declared.Kind.{Kind}
-use Rattle.reply.specs.declared.Kind.the-variants.{Values, ReadErrors, Updates, UpdateErrors, LongUpdates}
-use Rattle.reply.specs.Sections.{section}
+use Rattle.command.proofs.Answer.{the-type}
+use Rattle.section.specs.declared.Kind.{Kind}
+use Rattle.section.specs.declared.Kind.the-variants.{Values, ReadErrors, Updates, UpdateErrors, LongUpdates}
+use Rattle.section.specs.Kinds.{section}
 
 -- the octets of the record of an answer, where it is of a kind
 abbrev pub spelt : Kind → List ℕ → List ℕ → Op → Answer → List ℕ

@@ -1,4 +1,4 @@
--- `reply::write_value` meets its contract.
+-- `section::write_value` meets its contract.
 use Prim.Native.Nat.{ℕ, _+_}
 use native.Mathlib.Omega.{arith}
 use mathlib.Core.Path.{_≡_, sym, ap, _∙_}
@@ -10,9 +10,9 @@ use Rattle.meaning.specs.Block.{sums}
 use Rattle.meaning.specs.Step.{shown}
 use Rattle.meaning.specs.Reply.{heldOctets}
 use Rattle.records.proofs.Lengths.{held-length}
-use Rattle.tally.proofs.Loop.{shown-value, shown-short, shown-sums}
-use Rattle.reply.proofs.write_value.Statement.{statement}
-use Rattle.reply.proofs.write_value.Tie as tie
+use Rattle.command.proofs.Shown.{shown-value, shown-short, shown-sums}
+use Rattle.section.proofs.write_value.Statement.{statement}
+use Rattle.section.proofs.write_value.Tie as tie
 
 -- the sums are what a read of 8001 shows
 sums-shown : (c : tie.After-write-sums) → c .write-sums .last .1 .0 ≡ shown (c .before .before .before .before .before .before .args .m .now) (c .before .before .before .before .before .before .args .k)

@@ -1,4 +1,4 @@
--- `reply::spell` meets its contract.
+-- `section::spell` meets its contract.
 use Prim.Native.Nat.{ℕ, _+_, _≤_, _<_}
 use native.Mathlib.Omega.{arith}
 use mathlib.Core.Path.{_≡_, sym, ap, ap₂, _∙_}
@@ -14,9 +14,9 @@ use Rattle.operation.specs.Handing.{nameOf, fromOf, sizeOf}
 use Rattle.operation.proofs.Turns.{inside-name, inside-value}
 use Rattle.records.proofs.Pieces.{wrote-none, wrote-this}
 use Rattle.records.proofs.Lengths.{held-length, short-length, failed-length}
-use Rattle.reply.proofs.Spelling.{spelt, value-spelt, readError-spelt, updateError-spelt, short-spelt, long-spelt, not-short, not-long, no-Values, no-ReadErrors, no-Updates, no-UpdateErrors, no-LongUpdates}
-use Rattle.reply.proofs.spell.Statement.{statement}
-use Rattle.reply.proofs.spell.Tie as tie
+use Rattle.section.proofs.Spelling.{spelt, value-spelt, readError-spelt, updateError-spelt, short-spelt, long-spelt, not-short, not-long, no-Values, no-ReadErrors, no-Updates, no-UpdateErrors, no-LongUpdates}
+use Rattle.section.proofs.spell.Statement.{statement}
+use Rattle.section.proofs.spell.Tie as tie
 
 -- the operation's name, and where its value lies in the list
 module _ (c : tie.After-size-of) where

@@ -1,4 +1,4 @@
--- `reply::write_section` meets its contract.
+-- `section::write` meets its contract.
 use Prim.Native.Nat.{_-_, _≤_, _<_}
 use native.Mathlib.Omega.{arith}
 use mathlib.Core.Path.{refl, sym, _∙_}
@@ -7,9 +7,9 @@ use borrow.Author.Needs.{needs}
 use Rattle.operation.specs.Handing.{Inside}
 use Rattle.command.proofs.Sets.{long-of}
 use Rattle.command.proofs.Walk.{under-ahead}
-use Rattle.reply.proofs.Loop.{Writing, writing-start, writing-end, turn-fits, writing-turn}
-use Rattle.reply.proofs.write_section.Statement.{statement}
-use Rattle.reply.proofs.write_section.Tie as tie
+use Rattle.section.proofs.Loop.{Writing, writing-start, writing-end, turn-fits, writing-turn}
+use Rattle.section.proofs.write.Statement.{statement}
+use Rattle.section.proofs.write.Tie as tie
 
 abbrev Inv-loop : tie.InvT-loop
 Inv-loop list kind copy₀ out₀ at end₀ from₀ copy out end from = Writing kind copy₀ list out₀ at copy out end from
@@ -75,8 +75,8 @@ loop-again c =
     writing-turn _ _ _ _ _ _ _ (l .end) (l .from) (l .inv) _ (h .before .before .hand-out .ensures) _ _ (h .h .given .1) _ (k .result) (k .ensures .0) (k .ensures .1 .0) _ _
     (c .before .before .spell .ensures)
 
-pub write-section-spec : {M : Type 1} → statement M
-write-section-spec =
+pub write-spec : {M : Type 1} → statement M
+write-spec =
     tie.close
     (tie.spec
     Inv-loop

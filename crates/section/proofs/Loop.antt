@@ -13,21 +13,21 @@ use Rattle.meaning.specs.Step.{step, answer, answers, after}
 use Rattle.meaning.specs.Reply.{Records, joined, recordOf, gathered, heldOctets, shortOctets, failedOctets}
 use Rattle.meaning.specs.Calls.{records}
 use Rattle.meaning.proofs.Lists.{flat-append}
-use Rattle.records.specs.Writing.{Wrote}
-use Rattle.records.proofs.Pieces.{Left, left-start, left-as, first-fits, left-next, left-none}
 use Rattle.operation.specs.declared.Op.{Op}
 use Rattle.operation.specs.declared.Handed.{Handed}
 use Rattle.operation.specs.declared.Handed.the-variants.{Operation}
-use Rattle.operation.proofs.Handed.{the-type}
 use Rattle.operation.specs.Handing.{opOf}
+use Rattle.operation.proofs.Handed.{the-type}
 use Rattle.operation.proofs.Turns.{HandsOut}
+use Rattle.records.specs.Writing.{Wrote}
+use Rattle.records.proofs.Pieces.{Left, left-start, left-as, first-fits, left-next, left-none}
 use Rattle.command.specs.declared.Answer.{Answer}
 use Rattle.command.specs.Answers.{answerOf}
 use Rattle.command.proofs.Walk.{Under, rest, under-start, under-end, under-rest, under-turn}
-use Rattle.reply.specs.declared.Kind.{Kind}
-use Rattle.reply.specs.declared.Kind.the-variants.{Values, ReadErrors, Updates, UpdateErrors, LongUpdates}
-use Rattle.reply.specs.Sections.{section}
-use Rattle.reply.proofs.Spelling.{spelt}
+use Rattle.section.specs.declared.Kind.{Kind}
+use Rattle.section.specs.declared.Kind.the-variants.{Values, ReadErrors, Updates, UpdateErrors, LongUpdates}
+use Rattle.section.specs.Kinds.{section}
+use Rattle.section.proofs.Spelling.{spelt}
 
 section-joined : (k : Kind) (r s : Records) → section k (joined r s) ≡ section k r ++ section k s
 unfolding section

@@ -1,0 +1,3 @@
+-- Laws that the proofs of `section` share.
+pub mod Spelling
+pub mod Loop
