@@ -6,8 +6,8 @@ ghost use Prim.Native.Nat.{_+_, _≤_};
 ghost use mathlib.Core.Path.{_≡_};
 ghost use lib.ListN.{length};
 ghost use Rattle.meaning.specs.Calls.{message};
+ghost use Rattle.text.specs.Answers.{Answers};
 ghost use Rattle.bridge.specs.Frames.{Left};
-ghost use Rattle.bridge.specs.Answers.{Answers};
 
 // Octets of a frame's length.
 const HEAD: usize = 2;
@@ -33,8 +33,7 @@ fn answer(memory: &mut [u8], sent: &[u8], room: &mut [u8], out: &mut [u8], at: u
     ensures { λ r. ⌜ Answers (message (now (memory .entry)) (now (sent .entry)) (now (room .entry))) (now (out .entry)) at r (now (memory .exit)) (now (room .exit)) (now (out .exit)) ⌝ }
 {
     let outcome = endpoint::message(memory, sent, room);
-    let n = endpoint::written(outcome);
-    text::write_line(out, at, endpoint::number(outcome), &room[..n])
+    text::write_outcome(out, at, outcome, room)
 }
 
 // Answers each whole frame that is held. Lines are written out when enough are due, and all of them at the end, so that
