@@ -146,6 +146,10 @@ long-short n = at (ltb n 100)
     at true = omega (arith, decimal-short n)
     at false = simp length-append (omega (arith, decimal-short (n / 100)))
 
+pub lent-short : (n : ℕ) → length (lentLine n) ≤ 10
+unfolding lentLine
+lent-short n = simp length-append (omega (arith, long-short n))
+
 -- the hundreds, and two digits behind them
 pub long-written : (out₀ out₁ : List ℕ) (at n p a b : ℕ) → at + 4 ≤ length out₀ → 100 ≤ n → p ≡ at + length (decimal (n / 100)) → out₁ ≡ splice out₀ at (decimal (n / 100))
     → a ≡ digit (n / 10 % 10) → b ≡ digit (n % 10)
