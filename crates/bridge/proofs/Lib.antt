@@ -1,2 +1,2 @@
--- Laws of frames and of what the program holds.
+-- Laws of what the program holds.
 pub mod Held

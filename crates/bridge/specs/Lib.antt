@@ -1,3 +1,2 @@
--- What the contracts of `bridge` cite beside `meaning`.
+-- What the contracts of `bridge` cite beside `meaning` and `text`.
 pub mod Frames
-pub mod Answers

@@ -1,14 +1,13 @@
 // The program of document 01: frames from standard input, one line a frame to standard output, over one memory.
 // Input is read in large blocks, and lines are written out in blocks.
-use libc::STDIN_FILENO;
+use input::Next;
 use libc::STDOUT_FILENO;
-ghost use Prim.Native.Nat.{_+_, _-_, _≤_};
+ghost use Prim.Native.Nat.{_+_, _≤_};
 ghost use mathlib.Core.Path.{_≡_};
-ghost use lib.ListN.{length, take};
-ghost use Rattle.meaning.specs.Octets.{part};
+ghost use lib.ListN.{length};
 ghost use Rattle.meaning.specs.Calls.{message};
-ghost use Rattle.bridge.specs.Frames.{Framed, Left};
-ghost use Rattle.bridge.specs.Answers.{Answers};
+ghost use Rattle.text.specs.Answers.{Answers};
+ghost use Rattle.bridge.specs.Frames.{Left};
 
 // Octets of a frame's length.
 const HEAD: usize = 2;
@@ -21,32 +20,10 @@ const ROOM: usize = 4096;
 // Octets that the line of a full room may take.
 const LINE: usize = 8197;
 
-// What lies at a place of the input: a whole frame, which ends at the place told, or one of which more is to be read.
-enum Next {
-    Whole(usize),
-    More,
-}
-
 // What became of the frames that are held: the place from which more input is wanted, or that output cannot be written.
 enum Served {
     Rest(usize),
     Closed,
-}
-
-// The frame at a place of what was read.
-fn next_frame(held: &[u8], from: usize) -> Next
-    requires { ⌜ from ≤ length (now held) ⌝ }
-    ensures { λ r. ⌜ Framed (now (held .entry)) from r ⌝ }
-{
-    let left = held.len() - from;
-    if left < HEAD {
-        return Next::More;
-    }
-    let size = HEAD + octets::get16(held, from);
-    if left < size {
-        return Next::More;
-    }
-    Next::Whole(from + size)
 }
 
 // Answers one message: its line written at a place, and the place after it.
@@ -56,8 +33,7 @@ fn answer(memory: &mut [u8], sent: &[u8], room: &mut [u8], out: &mut [u8], at: u
     ensures { λ r. ⌜ Answers (message (now (memory .entry)) (now (sent .entry)) (now (room .entry))) (now (out .entry)) at r (now (memory .exit)) (now (room .exit)) (now (out .exit)) ⌝ }
 {
     let outcome = endpoint::message(memory, sent, room);
-    let n = endpoint::written(outcome);
-    text::write_line(out, at, endpoint::number(outcome), &room[..n])
+    text::write_outcome(out, at, outcome, room)
 }
 
 // Answers each whole frame that is held. Lines are written out when enough are due, and all of them at the end, so that
@@ -69,7 +45,7 @@ fn serve(memory: &mut [u8], held: &[u8], room: &mut [u8], out: &mut [u8]) -> Ser
     let mut from = 0;
     let mut at = 0;
     loop {
-        let Next::Whole(end) = next_frame(held, from) else {
+        let Next::Whole(end) = input::next_piece(held, from, HEAD) else {
             if io::write_all(STDOUT_FILENO, &out[..at]) {
                 return Served::Rest(from);
             }
@@ -86,37 +62,6 @@ fn serve(memory: &mut [u8], held: &[u8], room: &mut [u8], out: &mut [u8]) -> Ser
     }
 }
 
-// Reads once, to a place and after it: how many octets came, 0 where the input ends or cannot be read.
-fn read_on(block: &mut [u8], at: usize) -> usize
-    requires { ⌜ at ≤ length (now block) ⌝ }
-    ensures { λ r. ⌜ at + r ≤ length (now (block .entry)) ⌝ }
-{
-    let rest = &mut block[at..];
-    let got = libc::read(STDIN_FILENO, rest);
-    io::count(got, rest)
-}
-
-// Moves the octets between two places to the front; how many they are.
-fn to_front(block: &mut [u8], from: usize, to: usize) -> usize
-    requires { ⌜ (from ≤ to) × (to ≤ length (now block)) ⌝ }
-    ensures { λ r. ⌜ (r ≡ to - from) × (take r (now (block .exit)) ≡ part (now (block .entry)) from r) ⌝ }
-{
-    let n = to - from;
-    let mut i = 0;
-    while i < n {
-        block[i] = block[from + i];
-        i += 1;
-    }
-    n
-}
-
-// Says whether the input ended within a frame.
-fn finish(left: usize) {
-    if left > 0 {
-        io::write_all(STDOUT_FILENO, b"cut\n");
-    }
-}
-
 // Reads and answers until the input ends. A proved loop has to end, and nothing says that input does: so the loop counts
 // its turns down, from a number that no run uses up.
 fn run(memory: &mut [u8], block: &mut [u8], room: &mut [u8], out: &mut [u8])
@@ -126,15 +71,15 @@ fn run(memory: &mut [u8], block: &mut [u8], room: &mut [u8], out: &mut [u8])
     let mut turns = u64::MAX;
     while turns > 0 {
         turns -= 1;
-        let got = read_on(block, left);
+        let got = input::read_on(block, left);
         if got == 0 {
-            return finish(left);
+            return input::finish(left);
         }
         let to = left + got;
         let Served::Rest(from) = serve(memory, &block[..to], room, out) else {
             return;
         };
-        left = to_front(block, from, to);
+        left = input::to_front(block, from, to);
     }
 }
 

@@ -16,7 +16,7 @@ use Rattle.endpoint.specs.Outcomes.{numberOf, lengthOf, Gives}
 
 -- ---- what was written
 
-found : (o : calls.Outcome) (room : List ℕ) {r : Outcome} {m′ room′ : List ℕ} → RoomAfter o room → Gives o r m′ room′
+pub found : (o : calls.Outcome) (room : List ℕ) {r : Outcome} {m′ room′ : List ℕ} → RoomAfter o room → Gives o r m′ room′
     → (lengthOf r ≤ length room) × (take (lengthOf r) room′ ≡ o .written)
 found o room a g = (
   omega (arith, a .inRoom, g .written),

@@ -1,2 +1,3 @@
--- Laws of the text that the functions write.
+-- Laws of the text that the functions write, and of a call's answers.
 pub mod Writes
+pub mod Answered

@@ -2,7 +2,7 @@
 use Prim.Native.Nat.{ℕ, _+_, _*_, _/_, _%_, _≤_, _<_}
 use native.Mathlib.Numerals.{add-one}
 use native.Mathlib.Omega.{arith}
-use mathlib.Core.Path.{_≡_, refl}
+use mathlib.Core.Path.{_≡_, refl, ap, _∙_}
 use mathlib.Core.Bool.{Bool, true, false, cond}
 use mathlib.Core.List.{List, [], _∷_, _++_, append-assoc}
 use lib.ListN.{length, getD, drop, set, length-append, drop-of-length-le}
@@ -13,7 +13,7 @@ use borrow.Author.Tests.{ltb-true, ltb-false, lt-ltb, le-ltb}
 use Rattle.meaning.specs.Octets.{splice}
 use Rattle.meaning.proofs.Lists.{splice-length}
 use Rattle.octets.proofs.Splices.{splice-nil, one-store, two-stores, splice-splice, then}
-use Rattle.text.specs.Lines.{digit, hex, decimal, shownOctets, line}
+use Rattle.text.specs.Lines.{digit, hex, decimal, shownOctets, octetsLine, line, longDecimal, lentLine}
 
 -- 39 is what lies between the characters after `9` and `a`; 255 times 1 has all of its bits, 255 times 0 none
 pub digit-is : (d : ℕ) → d < 16 → d + 48 + bitAnd ((d + 6) / 16 * 255) 39 ≡ digit d
@@ -96,30 +96,82 @@ unfolding shownOctets
 shown-short [] = omega arith
 shown-short (x ∷ s) = omega (arith, hex-length (x ∷ s))
 
--- ---- a line
+-- ---- lines
+
+pub octets-short : (s : List ℕ) → length (octetsLine s) ≤ length s + length s + 2
+unfolding octetsLine
+octets-short s = simp length-append (omega (arith, shown-short s))
 
 pub line-short : (n : ℕ) (s : List ℕ) → length (line n s) ≤ length s + length s + 5
 unfolding line
-line-short n s = simp length-append (omega (arith, decimal-short n, shown-short s))
+line-short n s = simp length-append (omega (arith, decimal-short n, octets-short s))
 
--- the number, the space, the octets and the newline, one write behind another
+-- text, and one octet behind it
+pub then-one : (out₀ a : List ℕ) (at p x : ℕ) {out₁ : List ℕ} → at + length a + 1 ≤ length out₀ → p ≡ at + length a → out₁ ≡ splice out₀ at a
+    → (p + 1 ≡ at + length (a ++ (x ∷ []))) × (set out₁ p x ≡ splice out₀ at (a ++ (x ∷ [])))
+then-one out₀ a at p x {out₁} h e e₁ =
+    let l : length out₁ ≡ length out₀ = rw e₁ (splice-length out₀ at a (omega arith)) in
+    (simp length-append (omega arith), then out₀ a (x ∷ []) at p (omega arith) e e₁ (stored out₁ (x ∷ []) p x (omega arith) refl .1))
+
+-- the number and the space, and the octets behind them
 pub line-written : (out₀ out₁ out₂ src : List ℕ) (at n p q : ℕ) → at + (length src + length src + 5) ≤ length out₀
     → p ≡ at + length (decimal n) → out₁ ≡ splice out₀ at (decimal n)
-    → q ≡ p + 1 + length (shownOctets src) → out₂ ≡ splice (set out₁ p 32) (p + 1) (shownOctets src)
-    → (q + 1 ≡ at + length (line n src)) × (set out₂ q 10 ≡ splice out₀ at (line n src))
+    → q ≡ p + 1 + length (octetsLine src) → out₂ ≡ splice (set out₁ p 32) (p + 1) (octetsLine src)
+    → (q ≡ at + length (line n src)) × (out₂ ≡ splice out₀ at (line n src))
 unfolding line
 line-written out₀ out₁ out₂ src at n p q h ep e₁ eq e₂ =
     let d = decimal n in
-    let v = shownOctets src in
+    let v = octetsLine src in
     let dl = decimal-short n in
-    let vl = shown-short src in
-    let l₁ : length out₁ ≡ length out₀ = rw e₁ (splice-length out₀ at d (omega arith)) in
-    let s₁ : set out₁ p 32 ≡ splice out₀ at (d ++ (32 ∷ [])) =
-    then out₀ d (32 ∷ []) at p (omega arith) ep e₁ (stored out₁ (32 ∷ []) p 32 (omega arith) refl .1) in
+    let s₁ = then-one out₀ d at p 32 (omega arith) ep e₁ in
     let n₁ : length (d ++ (32 ∷ [])) ≡ length d + 1 = simp length-append in
-    let s₂ : out₂ ≡ splice out₀ at (d ++ (32 ∷ []) ++ v) = then out₀ (d ++ (32 ∷ [])) v at (p + 1) (omega arith) (omega arith) s₁ e₂ in
-    let n₂ : length (d ++ (32 ∷ []) ++ v) ≡ length d + 1 + length v = simp length-append in
-    let l₂ : length out₂ ≡ length out₀ = rw s₂ (splice-length out₀ at (d ++ (32 ∷ []) ++ v) (omega arith)) in
-    let s₃ : set out₂ q 10 ≡ splice out₀ at (d ++ (32 ∷ []) ++ v ++ (10 ∷ [])) =
-    then out₀ (d ++ (32 ∷ []) ++ v) (10 ∷ []) at q (omega arith) (omega arith) s₂ (stored out₂ (10 ∷ []) q 10 (omega arith) refl .1) in
-    (simp length-append (omega arith), simp append-assoc at s₃)
+    let s₂ : out₂ ≡ splice out₀ at (d ++ (32 ∷ []) ++ v) = then out₀ (d ++ (32 ∷ [])) v at (p + 1) (omega arith) (s₁ .0) (s₁ .1) e₂ in
+    (simp length-append (omega arith), simp append-assoc at s₂)
+
+-- ---- a number under 10,000
+
+pub long-one : (n : ℕ) → n < 100 → longDecimal n ≡ decimal n
+unfolding longDecimal
+long-one n h = rw (lt-ltb n 100 h)
+
+pub long-two : (n a b : ℕ) → 100 ≤ n → a ≡ digit (n / 10 % 10) → b ≡ digit (n % 10) → longDecimal n ≡ decimal (n / 100) ++ (a ∷ b ∷ [])
+unfolding longDecimal
+long-two n a b h e f = rw (le-ltb n 100 h, e, f)
+
+pub long-short : (n : ℕ) → length (longDecimal n) ≤ 4
+unfolding longDecimal
+long-short n = at (ltb n 100)
+  where
+    at : (b : Bool) → length (cond b (decimal n) (decimal (n / 100) ++ (digit (n / 10 % 10) ∷ digit (n % 10) ∷ []))) ≤ 4
+    at true = omega (arith, decimal-short n)
+    at false = simp length-append (omega (arith, decimal-short (n / 100)))
+
+pub lent-short : (n : ℕ) → length (lentLine n) ≤ 10
+unfolding lentLine
+lent-short n = simp length-append (omega (arith, long-short n))
+
+-- the hundreds, and two digits behind them
+pub long-written : (out₀ out₁ : List ℕ) (at n p a b : ℕ) → at + 4 ≤ length out₀ → 100 ≤ n → p ≡ at + length (decimal (n / 100)) → out₁ ≡ splice out₀ at (decimal (n / 100))
+    → a ≡ digit (n / 10 % 10) → b ≡ digit (n % 10)
+    → (p + 2 ≡ at + length (longDecimal n)) × (set (set out₁ p a) (p + 1) b ≡ splice out₀ at (longDecimal n))
+long-written out₀ out₁ at n p a b h k ep e₁ ea eb =
+    let d = decimal (n / 100) in
+    let dl = decimal-short (n / 100) in
+    let l : length out₁ ≡ length out₀ = rw e₁ (splice-length out₀ at d (omega arith)) in
+    let e = long-two n a b k ea eb in
+    (rw e (simp length-append (omega arith)), rw e (then out₀ d (a ∷ b ∷ []) at p (omega arith) ep e₁ (two-stores out₁ p a b (omega arith))))
+
+-- the word, the number and the newline
+pub lent-written : (out₀ out₁ out₂ : List ℕ) (at n p q : ℕ) → at + 10 ≤ length out₀
+    → p ≡ at + 5 → out₁ ≡ splice out₀ at (108 ∷ 101 ∷ 110 ∷ 116 ∷ 32 ∷ [])
+    → q ≡ p + length (longDecimal n) → out₂ ≡ splice out₁ p (longDecimal n)
+    → (q + 1 ≡ at + length (lentLine n)) × (set out₂ q 10 ≡ splice out₀ at (lentLine n))
+unfolding lentLine
+lent-written out₀ out₁ out₂ at n p q h ep e₁ eq e₂ =
+    let w : List ℕ = 108 ∷ 101 ∷ 110 ∷ 116 ∷ 32 ∷ [] in
+    let d = longDecimal n in
+    let dl = long-short n in
+    let s₁ : out₂ ≡ splice out₀ at (w ++ d) = then out₀ w d at p (omega arith) ep e₁ e₂ in
+    let n₁ : length (w ++ d) ≡ 5 + length d = simp length-append in
+    let s₂ = then-one out₀ (w ++ d) at q 10 (omega arith) (omega arith) s₁ in
+    (s₂ .0 ∙ ap (λ (l : List ℕ). at + length l) (append-assoc w d (10 ∷ [])), s₂ .1 ∙ ap (splice out₀ at) (append-assoc w d (10 ∷ [])))

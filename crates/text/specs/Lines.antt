@@ -1,4 +1,4 @@
--- Lines of text: a number under 100, a space, octets in lower-case hexadecimal or `-` for none, a newline.
+-- Lines of text: numbers in decimal, octets in lower-case hexadecimal or `-` for none, a newline at the end.
 use Prim.Native.Nat.{ℕ, _+_, _/_, _%_}
 use mathlib.Core.Bool.{cond}
 use mathlib.Core.List.{List, [], _∷_, _++_}
@@ -21,5 +21,18 @@ unfoldable pub shownOctets : List ℕ → List ℕ
 shownOctets [] = 45 ∷ []
 shownOctets (x ∷ s) = hex (x ∷ s)
 
+-- a line of octets alone
+unfoldable pub octetsLine : List ℕ → List ℕ
+octetsLine s = shownOctets s ++ (10 ∷ [])
+
+-- a number under 100, a space, octets
 unfoldable pub line : ℕ → List ℕ → List ℕ
-line n s = decimal n ++ (32 ∷ (shownOctets s ++ (10 ∷ [])))
+line n s = decimal n ++ (32 ∷ octetsLine s)
+
+-- a number under 10,000, without a leading zero
+unfoldable pub longDecimal : ℕ → List ℕ
+longDecimal n = cond (ltb n 100) (decimal n) (decimal (n / 100) ++ (digit (n / 10 % 10) ∷ digit (n % 10) ∷ []))
+
+-- `lent`, a space, a number
+unfoldable pub lentLine : ℕ → List ℕ
+lentLine n = (108 ∷ 101 ∷ 110 ∷ 116 ∷ 32 ∷ []) ++ (longDecimal n ++ (10 ∷ []))

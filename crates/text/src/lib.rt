@@ -1,10 +1,12 @@
-// Lines of text, written at a place of a room. Each function returns the place after what it wrote, and says by a
-// definition of `Lines` what every octet of the room holds afterwards.
+// Lines of text, written at a place of a room: also those of a call's outcomes. Each function returns the place after what
+// it wrote, and says by a definition of `Lines` or `Answers` what every octet of the room holds afterwards.
 ghost use Prim.Native.Nat.{_+_, _≤_, _<_};
 ghost use mathlib.Core.Path.{_≡_};
 ghost use lib.ListN.{length};
 ghost use Rattle.meaning.specs.Octets.{splice};
-ghost use Rattle.text.specs.Lines.{digit as Lines·digit, hex, decimal, shownOctets, line};
+ghost use Rattle.endpoint.specs.Outcomes.{lengthOf};
+ghost use Rattle.text.specs.Lines.{digit as Lines·digit, hex, decimal, shownOctets, octetsLine, line, longDecimal, lentLine};
+ghost use Rattle.text.specs.Answers.{answerLine};
 
 // The character of a digit: 39 more for a letter, taken from all bits of an octet or from none. With a quotient by 10 or a
 // test, LLVM puts branches into the loop over it.
@@ -58,14 +60,56 @@ fn write_shown(out: &mut [u8], at: usize, src: &[u8]) -> usize
     write_hex(out, at, src)
 }
 
-// A line: a number under 100, a space, octets, a newline.
+// A line of octets alone.
+pub fn write_octets(out: &mut [u8], at: usize, src: &[u8]) -> usize
+    requires { ⌜ at + (length (now src) + length (now src) + 2) ≤ length (now out) ⌝ }
+    ensures { λ r. ⌜ (r ≡ at + length (octetsLine (now (src .entry)))) × (now (out .exit) ≡ splice (now (out .entry)) at (octetsLine (now (src .entry)))) ⌝ }
+{
+    let end = write_shown(out, at, src);
+    out[end] = b'\n';
+    end + 1
+}
+
+// A line: a number under 100, a space, octets.
 pub fn write_line(out: &mut [u8], at: usize, number: usize, reply: &[u8]) -> usize
     requires { ⌜ (number < 100) × (at + (length (now reply) + length (now reply) + 5) ≤ length (now out)) ⌝ }
     ensures { λ r. ⌜ (r ≡ at + length (line number (now (reply .entry)))) × (now (out .exit) ≡ splice (now (out .entry)) at (line number (now (reply .entry)))) ⌝ }
 {
     let space = write_decimal(out, at, number);
     out[space] = b' ';
-    let end = write_shown(out, space + 1, reply);
+    write_octets(out, space + 1, reply)
+}
+
+// The line of an outcome: its number, and what its call wrote at the start of a room.
+pub fn write_outcome(out: &mut [u8], at: usize, outcome: endpoint::Outcome, room: &[u8]) -> usize
+    requires { ⌜ (lengthOf outcome ≤ length (now room)) × (at + (length (now room) + length (now room) + 5) ≤ length (now out)) ⌝ }
+    ensures { λ r. ⌜ (r ≡ at + length (answerLine outcome (now (room .entry)))) × (now (out .exit) ≡ splice (now (out .entry)) at (answerLine outcome (now (room .entry)))) ⌝ }
+{
+    let n = endpoint::written(outcome);
+    write_line(out, at, endpoint::number(outcome), &room[..n])
+}
+
+// A number under 10,000.
+fn write_long_decimal(out: &mut [u8], at: usize, number: usize) -> usize
+    requires { ⌜ (number < 10000) × (at + 4 ≤ length (now out)) ⌝ }
+    ensures { λ r. ⌜ (r ≡ at + length (longDecimal number)) × (now (out .exit) ≡ splice (now (out .entry)) at (longDecimal number)) ⌝ }
+{
+    if number < 100 {
+        return write_decimal(out, at, number);
+    }
+    let tens = write_decimal(out, at, number / 100);
+    out[tens] = digit((number / 10 % 10) as u8);
+    out[tens + 1] = digit((number % 10) as u8);
+    tens + 2
+}
+
+// The line that tells how much was lent.
+pub fn write_lent(out: &mut [u8], at: usize, lent: usize) -> usize
+    requires { ⌜ (lent < 10000) × (at + 10 ≤ length (now out)) ⌝ }
+    ensures { λ r. ⌜ (r ≡ at + length (lentLine lent)) × (now (out .exit) ≡ splice (now (out .entry)) at (lentLine lent)) ⌝ }
+{
+    let number = octets::append(out, at, b"lent ");
+    let end = write_long_decimal(out, number, lent);
     out[end] = b'\n';
     end + 1
 }

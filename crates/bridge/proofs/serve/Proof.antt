@@ -5,7 +5,7 @@ use mathlib.Core.Path.{_≡_, sym, _∙_}
 use lib.ListN.{length}
 use lib.Seq.{length-take-le}
 use borrow.Author.Needs.{needs}
-use Rattle.bridge.proofs.Held.{whole, more}
+use Rattle.input.proofs.Held.{whole, more}
 use Rattle.bridge.proofs.serve.Statement.{statement}
 use Rattle.bridge.proofs.serve.Tie as tie
 
@@ -19,8 +19,8 @@ abbrev μ-loop : tie.MeasureT-loop
 loop-holds : tie.Need-loop-holds Inv-loop μ-loop
 loop-holds c = search needs
 
-next-frame-requires : tie.Need-next-frame-requires Inv-loop μ-loop
-next-frame-requires c κs = search needs
+next-piece-requires : tie.Need-next-piece-requires Inv-loop μ-loop
+next-piece-requires c κs = search needs
 
 enum-known-end : tie.Need-enum-known-end Inv-loop μ-loop
 enum-known-end c = search needs
@@ -53,7 +53,8 @@ returns c =
     let e = c .before .before .before in
     let n = e .before .before in
     let l = n .before in
-    (omega arith, more (l .before .before .before .before .before .args .held .now) (l .loop .from) (e .enum-told .given .1) (n .next-frame .ensures))
+    let f = more (l .before .before .before .before .before .args .held .now) (l .loop .from) 2 (e .enum-told .given .1) (n .next-piece .ensures) in
+    (omega arith, omega arith)
 
 same-length-4 : tie.Need-same-length-4 Inv-loop μ-loop
 same-length-4 c = search needs
@@ -74,21 +75,21 @@ sub-answer : tie.Need-sub-answer Inv-loop μ-loop
 sub-answer c =
     let n = c .before .before .before .before in
     let l = n .before in
-    let f = whole (l .before .before .before .before .before .args .held .now) (l .loop .from) (c .before .before .end .given .1) (n .next-frame .ensures) in
+    let f = whole (l .before .before .before .before .before .args .held .now) (l .loop .from) 2 (c .before .before .end .given .1) (n .next-piece .ensures) in
     omega arith
 
 part-answer-start : tie.Need-part-answer-start Inv-loop μ-loop
 part-answer-start c =
     let n = c .before .before .before .before in
     let l = n .before in
-    let f = whole (l .before .before .before .before .before .args .held .now) (l .loop .from) (c .before .before .end .given .1) (n .next-frame .ensures) in
+    let f = whole (l .before .before .before .before .before .args .held .now) (l .loop .from) 2 (c .before .before .end .given .1) (n .next-piece .ensures) in
     omega arith
 
 part-answer-end : tie.Need-part-answer-end Inv-loop μ-loop
 part-answer-end c =
     let n = c .before .before .before .before in
     let l = n .before in
-    let f = whole (l .before .before .before .before .before .args .held .now) (l .loop .from) (c .before .before .end .given .1) (n .next-frame .ensures) in
+    let f = whole (l .before .before .before .before .before .args .held .now) (l .loop .from) 2 (c .before .before .end .given .1) (n .next-piece .ensures) in
     omega arith
 
 answer-requires : tie.Need-answer-requires Inv-loop μ-loop
@@ -123,7 +124,7 @@ loop-less c =
     let k = a .before .before .before .before .before in
     let n = k .before .before .before in
     let l = n .before in
-    let f = whole (l .before .before .before .before .before .args .held .now) (l .loop .from) (k .before .end .given .1) (n .next-frame .ensures) in
+    let f = whole (l .before .before .before .before .before .args .held .now) (l .loop .from) 2 (k .before .end .given .1) (n .next-piece .ensures) in
     omega arith
 
 loop-again : tie.Need-loop-again Inv-loop μ-loop
@@ -132,7 +133,7 @@ loop-again c =
     let k = a .before .before .before .before .before in
     let n = k .before .before .before in
     let l = n .before in
-    let f = whole (l .before .before .before .before .before .args .held .now) (l .loop .from) (k .before .end .given .1) (n .next-frame .ensures) in
+    let f = whole (l .before .before .before .before .before .args .held .now) (l .loop .from) 2 (k .before .end .given .1) (n .next-piece .ensures) in
     (search needs, search needs, a .answer .kept .1 .1 .1 .0 ∙ l .loop .inv .2, omega arith, search needs)
 
 loop-less-2 : tie.Need-loop-less-2 Inv-loop μ-loop
@@ -141,7 +142,7 @@ loop-less-2 c =
     let k = a .before .before .before .before .before in
     let n = k .before .before .before in
     let l = n .before in
-    let f = whole (l .before .before .before .before .before .args .held .now) (l .loop .from) (k .before .end .given .1) (n .next-frame .ensures) in
+    let f = whole (l .before .before .before .before .before .args .held .now) (l .loop .from) 2 (k .before .end .given .1) (n .next-piece .ensures) in
     omega arith
 
 loop-again-2 : tie.Need-loop-again-2 Inv-loop μ-loop
@@ -150,7 +151,7 @@ loop-again-2 c =
     let k = a .before .before .before .before .before in
     let n = k .before .before .before in
     let l = n .before in
-    let f = whole (l .before .before .before .before .before .args .held .now) (l .loop .from) (k .before .end .given .1) (n .next-frame .ensures) in
+    let f = whole (l .before .before .before .before .before .args .held .now) (l .loop .from) 2 (k .before .end .given .1) (n .next-piece .ensures) in
     (search needs, search needs, search needs, omega arith, search needs)
 
 pub serve-spec : {M : Type 1} → statement M
@@ -160,7 +161,7 @@ serve-spec =
     Inv-loop
     μ-loop
     loop-holds
-    next-frame-requires
+    next-piece-requires
     enum-known-end
     enum-told
     slice-reshare-prefix-write-all

@@ -3,7 +3,7 @@ use native.Mathlib.Omega.{arith}
 use mathlib.Core.Path.{_∙_}
 use lib.ListN.{length-set}
 use borrow.Author.Needs.{needs}
-use Rattle.text.proofs.Writes.{decimal-short, shown-short, line-written}
+use Rattle.text.proofs.Writes.{decimal-short, line-written}
 use Rattle.text.proofs.write_line.Statement.{statement}
 use Rattle.text.proofs.write_line.Tie as tie
 
@@ -13,32 +13,18 @@ write-decimal-requires c κs = search needs
 slice-write-out : tie.Need-slice-write-out
 slice-write-out c = omega (arith, decimal-short (c .before .before .before .before .before .before .args .number))
 
-add-write-shown : tie.Need-add-write-shown
-add-write-shown c = omega (arith, decimal-short (c .before .before .before .before .before .before .before .args .number))
+add-write-octets : tie.Need-add-write-octets
+add-write-octets c = omega (arith, decimal-short (c .before .before .before .before .before .before .before .args .number))
 
-write-shown-requires : tie.Need-write-shown-requires
-write-shown-requires c κs = simp length-set (omega (arith, decimal-short (c .before .before .before .before .before .before .before .args .number)))
-
-slice-write-out-2 : tie.Need-slice-write-out-2
-slice-write-out-2 c =
-    let w = c .before .before .write-shown in
-    let d = c .before .before .before .before .before .before in
-    let s = d .before .before .before .before in
-    omega (arith, simp length-set at (w .kept .0), d .write-decimal .kept .0, decimal-short (s .args .number), shown-short (s .args .reply .now))
-
-add-result : tie.Need-add-result
-add-result c =
-    let w = c .before .before .write-shown in
-    omega (arith, slice-write-out-2 c, simp length-set at (w .kept .0), c .before .before .before .before .before .before .write-decimal .kept .0)
+write-octets-requires : tie.Need-write-octets-requires
+write-octets-requires c κs = simp length-set (omega (arith, decimal-short (c .before .before .before .before .before .before .before .args .number)))
 
 same-length : tie.Need-same-length
-same-length c =
-    simp length-set
-    (c .before .before .write-shown .kept .0 ∙ simp length-set (c .before .before .before .before .before .before .write-decimal .kept .0))
+same-length c = c .before .before .write-octets .kept .0 ∙ simp length-set (c .before .before .before .before .before .before .write-decimal .kept .0)
 
 returns : tie.Need-returns
 returns c =
-    let w = c .before .before .write-shown in
+    let w = c .before .before .write-octets in
     let d = c .before .before .before .before .before .before in
     let s = d .before .before .before .before in
     let n = d .write-decimal in
@@ -51,9 +37,7 @@ write-line-spec =
     (tie.spec
     write-decimal-requires
     slice-write-out
-    add-write-shown
-    write-shown-requires
-    slice-write-out-2
-    add-result
+    add-write-octets
+    write-octets-requires
     same-length
     returns)

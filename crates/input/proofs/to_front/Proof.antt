@@ -1,13 +1,13 @@
--- `bridge::to_front` meets its contract.
+-- `input::to_front` meets its contract.
 use Prim.Native.Nat.{_≤_, _-_}
 use native.Mathlib.Omega.{arith}
 use mathlib.Core.Path.{_≡_, refl}
 use lib.ListN.{length, take, drop, length-set}
 use borrow.Author.Needs.{needs}
 use Rattle.meaning.specs.Octets.{part}
-use Rattle.bridge.proofs.Held.{move-turn}
-use Rattle.bridge.proofs.to_front.Statement.{statement}
-use Rattle.bridge.proofs.to_front.Tie as tie
+use Rattle.input.proofs.Held.{move-turn}
+use Rattle.input.proofs.to_front.Statement.{statement}
+use Rattle.input.proofs.to_front.Tie as tie
 
 abbrev Inv-loop : tie.InvT-loop
 Inv-loop block₀ from to n i₀ block i = (i ≤ n) × (length block ≡ length block₀) × (take i block ≡ part block₀ from i) × (drop i block ≡ drop i block₀)

@@ -1,0 +1,55 @@
+-- What is held of the input: how long a piece is, the rest of one moved to the front.
+use Prim.Native.Nat.{ℕ, _+_, _-_, _≤_, _<_}
+use native.Mathlib.Numerals.{add-one}
+use native.Mathlib.Omega.{arith}
+use mathlib.Core.Path.{_≡_, sym, ap, _∙_}
+use mathlib.Core.List.{List}
+use lib.ListN.{length, getD, take, drop, set, length-drop}
+use lib.Seq.{take-suc, take-suc-set, drop-set-lt, drop-drop, getD-drop}
+use borrow.Author.Tests.{le-leb, lt-leb}
+use Rattle.meaning.specs.Octets.{at16, part}
+use Rattle.input.specs.Pieces.{needed, Found}
+use Rattle.input.specs.declared.Next.{Next}
+use Rattle.input.specs.declared.Next.the-variants.{Whole, More}
+
+-- ---- a piece's octets
+
+pub needed-head : (s : List ℕ) (from head : ℕ) → length s < from + head → needed s from head ≡ head
+unfolding needed
+needed-head s from head h = rw (lt-leb (from + head) (length s) h)
+
+pub needed-all : (s : List ℕ) (from head : ℕ) → from + head ≤ length s → needed s from head ≡ head + at16 s (from + head - 2)
+unfolding needed
+needed-all s from head h = rw (le-leb (from + head) (length s) h)
+
+-- what is known where a piece is whole, and where more is wanted
+pub whole : (s : List ℕ) (from head : ℕ) {end : ℕ} {r : Next} → r ≡ Whole end → Found s from head r → (from + head ≤ end) × (end ≤ length s)
+whole s from head {end} e f =
+    let g : Found s from head (Whole end) = rw e at f in
+    (g .1, g .2)
+
+pub more : (s : List ℕ) (from head : ℕ) {r : Next} → r ≡ More → Found s from head r → length s < from + head + 65535
+more s from head e f =
+    let g : Found s from head More = rw e at f in
+    g .1
+
+-- ---- octets moved to the front
+
+-- A turn moves one octet: those at its place and after it are still the old ones.
+pub move-turn : (s₀ s : List ℕ) (from i : ℕ) → i < length s → from + i < length s₀ → take i s ≡ part s₀ from i → drop i s ≡ drop i s₀
+    → (take (i + 1) (set s i (getD s (from + i) 0)) ≡ part s₀ from (i + 1)) × (drop (i + 1) (set s i (getD s (from + i) 0)) ≡ drop (i + 1) s₀)
+unfolding part
+move-turn s₀ s from i h k e f =
+    let x = getD s (from + i) 0 in
+    let c : from + i ≡ i + from = omega arith in
+    let g : x ≡ getD (drop from s₀) i 0 =
+    ap (λ (j : ℕ). getD s j 0) c
+    ∙ sym (getD-drop i s from 0)
+    ∙ ap (λ (l : List ℕ). getD l from 0) f
+    ∙ getD-drop i s₀ from 0
+    ∙ ap (λ (j : ℕ). getD s₀ j 0) (sym c)
+    ∙ sym (getD-drop from s₀ i 0) in
+    let n : i < length (drop from s₀) = simp length-drop (omega arith) in (
+      rw (add-one, take-suc-set s i x h, take-suc (drop from s₀) i 0 n, e, g),
+      drop-set-lt (i + 1) s i x (omega arith) ∙ sym (drop-drop 1 i s) ∙ ap (drop 1) f ∙ drop-drop 1 i s₀,
+    )

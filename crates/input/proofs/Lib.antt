@@ -1,0 +1,2 @@
+-- Laws of pieces and of octets moved to the front.
+pub mod Held

@@ -1,0 +1,56 @@
+-- `input::next_piece` meets its contract.
+use native.Mathlib.Omega.{arith}
+use borrow.Author.Needs.{needs}
+use Rattle.input.proofs.Held.{needed-head, needed-all}
+use Rattle.input.proofs.next_piece.Statement.{statement}
+use Rattle.input.proofs.next_piece.Tie as tie
+
+sub-left : tie.Need-sub-left
+sub-left c = search needs
+
+returns : tie.Need-returns
+returns c =
+    let s = c .before .before in
+    let e = needed-head (s .args .held .now) (s .args .from) (s .args .head) (omega arith) in
+    (rw e (omega arith), omega arith)
+
+add-get16 : tie.Need-add-get16
+add-get16 c = search needs
+
+sub-get16 : tie.Need-sub-get16
+sub-get16 c = search needs
+
+get16-requires : tie.Need-get16-requires
+get16-requires c κs = search needs
+
+add-size : tie.Need-add-size
+add-size c = search needs
+
+returns-2 : tie.Need-returns-2
+returns-2 c =
+    let s = c .before .before .before .before in
+    let e = needed-all (s .args .held .now) (s .args .from) (s .args .head) (omega arith) in
+    (rw e (omega arith), omega arith)
+
+add-t9 : tie.Need-add-t9
+add-t9 c = search needs
+
+returns-3 : tie.Need-returns-3
+returns-3 c =
+    let s = c .before .before .before .before in
+    let e = needed-all (s .args .held .now) (s .args .from) (s .args .head) (omega arith) in
+    (rw e (omega arith), omega arith, omega arith)
+
+pub next-piece-spec : {M : Type 1} → statement M
+next-piece-spec =
+    tie.close
+    (tie.spec
+    sub-left
+    returns
+    add-get16
+    sub-get16
+    get16-requires
+    add-size
+    returns-2
+    add-t9
+    returns-3)

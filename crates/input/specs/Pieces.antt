@@ -1,0 +1,19 @@
+-- Pieces in the octets that were read: where the next one ends, or that more input is wanted.
+use Prim.Native.Nat.{ℕ, _+_, _-_, _≤_, _<_}
+use mathlib.Core.Path.{_≡_}
+use mathlib.Core.Bool.{cond}
+use mathlib.Core.List.{List}
+use lib.ListN.{length}
+use lib.Dec.{leb}
+use Rattle.meaning.specs.Octets.{at16}
+use Rattle.input.specs.declared.Next.{Next}
+use Rattle.input.specs.declared.Next.the-variants.{Whole, More}
+
+-- octets of the piece at a place, as far as they can be told: its head, and as many as the head's last two octets say
+unfoldable pub needed : List ℕ → ℕ → ℕ → ℕ
+needed s from head = cond (leb (from + head) (length s)) (head + at16 s (from + head - 2)) head
+
+-- a piece is whole where all of it is there, and it is found with its end
+abbrev pub Found : List ℕ → ℕ → ℕ → Next → Type 0
+Found s from head (Whole end) = (end ≡ from + needed s from head) × (from + head ≤ end) × (end ≤ length s)
+Found s from head More = (length s < from + needed s from head) × (length s < from + head + 65535)

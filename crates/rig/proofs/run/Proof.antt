@@ -1,0 +1,152 @@
+-- `rig::run` meets its contract.
+use Prim.Native.Nat.{_+_, _≤_, _<_}
+use native.Mathlib.Omega.{arith}
+use mathlib.Core.Path.{_≡_, sym}
+use lib.ListN.{length, take}
+use lib.Seq.{length-take-le}
+use borrow.Author.Needs.{needs}
+use Rattle.rig.specs.Takes.{Lends}
+use Rattle.rig.proofs.Held.{rest}
+use Rattle.rig.proofs.run.Statement.{statement}
+use Rattle.rig.proofs.run.Tie as tie
+
+abbrev Inv-loop : tie.InvT-loop
+Inv-loop memory₀ block₀ room₀ out₀ lent₀ left₀ turns₀ memory block room out lent left turns =
+    (length memory ≡ length memory₀) × (length block ≡ length block₀) × (length room ≡ length room₀) × (length out ≡ length out₀) × (left < 65538) × Lends lent
+
+abbrev μ-loop : tie.MeasureT-loop
+μ-loop memory₀ block₀ room₀ out₀ lent₀ left₀ turns₀ memory block room out lent left turns = turns
+
+loop-holds : tie.Need-loop-holds Inv-loop μ-loop
+loop-holds c = search needs
+
+sub-turns : tie.Need-sub-turns Inv-loop μ-loop
+sub-turns c = search needs
+
+read-on-requires : tie.Need-read-on-requires Inv-loop μ-loop
+read-on-requires c κs = search needs
+
+finish-requires : tie.Need-finish-requires Inv-loop μ-loop
+finish-requires c κs = search needs
+
+same-length : tie.Need-same-length Inv-loop μ-loop
+same-length c = search needs
+
+same-length-2 : tie.Need-same-length-2 Inv-loop μ-loop
+same-length-2 c = search needs
+
+same-length-3 : tie.Need-same-length-3 Inv-loop μ-loop
+same-length-3 c = search needs
+
+same-length-4 : tie.Need-same-length-4 Inv-loop μ-loop
+same-length-4 c = search needs
+
+returns : tie.Need-returns Inv-loop μ-loop
+returns c = search needs
+
+add-to : tie.Need-add-to Inv-loop μ-loop
+add-to c = search needs
+
+slice-reshare-prefix-serve : tie.Need-slice-reshare-prefix-serve Inv-loop μ-loop
+slice-reshare-prefix-serve c = search needs
+
+slice-aggregate-serve : tie.Need-slice-aggregate-serve Inv-loop μ-loop
+slice-aggregate-serve c =
+    let r = c .before .before .before .before .before .before in
+    sym (length-take-le (r .before .before .before .loop .left + r .read-on .result) (r .read-on .last .0) (omega arith))
+
+serve-requires : tie.Need-serve-requires Inv-loop μ-loop
+serve-requires c κs = search needs
+
+enum-known-from : tie.Need-enum-known-from Inv-loop μ-loop
+enum-known-from c = search needs
+
+enum-told : tie.Need-enum-told Inv-loop μ-loop
+enum-told c = search needs
+
+same-length-5 : tie.Need-same-length-5 Inv-loop μ-loop
+same-length-5 c = search needs
+
+same-length-6 : tie.Need-same-length-6 Inv-loop μ-loop
+same-length-6 c = search needs
+
+same-length-7 : tie.Need-same-length-7 Inv-loop μ-loop
+same-length-7 c = search needs
+
+same-length-8 : tie.Need-same-length-8 Inv-loop μ-loop
+same-length-8 c = search needs
+
+returns-2 : tie.Need-returns-2 Inv-loop μ-loop
+returns-2 c = search needs
+
+-- what is left of the octets that were read
+left : (c : tie.After-known-told Inv-loop μ-loop)
+    → let r = c .before .before .before .before .before .before .before .before .before .before .before .before .before .before .before .before .before in
+    let n = length (take (r .before .before .before .loop .left + r .read-on .result) (r .read-on .last .0)) in
+    (c .before .from .given .0 .0 ≤ n) × (n < c .before .from .given .0 .0 + 65538) × Lends (c .before .from .given .0 .1 .0)
+left c =
+    let r = c .before .before .before .before .before .before .before .before .before .before .before .before .before .before .before .before .before in
+    rest (length (take (r .before .before .before .loop .left + r .read-on .result) (r .read-on .last .0))) (c .before .from .given .1) (c .before .before .before .before .before .before .before .before .before .serve .ensures)
+
+to-front-requires : tie.Need-to-front-requires Inv-loop μ-loop
+to-front-requires c κs =
+    let f = left (c .before) in
+    omega (arith, slice-aggregate-serve (c .before .before .before .before .before .before .before .before .before .before .before .before))
+
+loop-less : tie.Need-loop-less Inv-loop μ-loop
+loop-less c = search needs
+
+loop-again : tie.Need-loop-again Inv-loop μ-loop
+loop-again c =
+    let f = left (c .before .before .before .before) in
+    (search needs, search needs, search needs, search needs, omega (arith, slice-aggregate-serve (c .before .before .before .before .before .before .before .before .before .before .before .before .before .before .before)), f .2)
+
+same-length-9 : tie.Need-same-length-9 Inv-loop μ-loop
+same-length-9 c = search needs
+
+same-length-10 : tie.Need-same-length-10 Inv-loop μ-loop
+same-length-10 c = search needs
+
+same-length-11 : tie.Need-same-length-11 Inv-loop μ-loop
+same-length-11 c = search needs
+
+same-length-12 : tie.Need-same-length-12 Inv-loop μ-loop
+same-length-12 c = search needs
+
+returns-3 : tie.Need-returns-3 Inv-loop μ-loop
+returns-3 c = search needs
+
+pub run-spec : {M : Type 1} → statement M
+run-spec =
+    tie.close
+    (tie.spec
+    Inv-loop
+    μ-loop
+    loop-holds
+    sub-turns
+    read-on-requires
+    finish-requires
+    same-length
+    same-length-2
+    same-length-3
+    same-length-4
+    returns
+    add-to
+    slice-reshare-prefix-serve
+    slice-aggregate-serve
+    serve-requires
+    enum-known-from
+    enum-told
+    same-length-5
+    same-length-6
+    same-length-7
+    same-length-8
+    returns-2
+    to-front-requires
+    loop-less
+    loop-again
+    same-length-9
+    same-length-10
+    same-length-11
+    same-length-12
+    returns-3)

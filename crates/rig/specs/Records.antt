@@ -1,0 +1,72 @@
+-- The records of a script: the bodies that each code may have, the line that it prints, and the memory and the room that it leaves.
+use Prim.Native.Nat.{ℕ, _+_, _*_}
+use mathlib.Core.Bool.{Bool, false, cond}
+use mathlib.Core.List.{List, [], _∷_}
+use lib.ListN.{length, getD, drop, replicate}
+use lib.Dec.{eqb, leb, ltb}
+use Rattle.meaning.specs.Octets.{at16, at32}
+use Rattle.meaning.specs.Delay.{delay}
+use Rattle.meaning.specs.Calls.{Outcome, makeFresh, message, localValue, build, expiry}
+use Rattle.text.specs.Lines.{octetsLine, lentLine}
+use Rattle.text.specs.Answers.{lineOf}
+
+-- a known code has a body of so many octets
+unfoldable pub bodyRight : ℕ → ℕ → Bool
+bodyRight code n =
+    getD
+    (eqb n 0  -- make the lent memory fresh
+    ∷ leb 2 n  -- message: room length (2), message
+    ∷ leb 2 n  -- local value: name (2), value
+    ∷ eqb n 2  -- build a notification: room length (2)
+    ∷ eqb n 0  -- timer expiry
+    ∷ leb n 2200  -- lend other memory: 0 to 2,200 octets
+    ∷ eqb n 0  -- show memory
+    ∷ eqb n 0  -- show the room of the last message or notification
+    ∷ eqb n 8  -- delay conversion: nanoseconds (8)
+    ∷ []) code false
+
+-- a room made anew: at most 8,192 octets, each A5
+unfoldable pub roomLength : ℕ → ℕ
+roomLength asked = cond (ltb asked 8192) asked 8192
+
+unfoldable pub anew : ℕ → List ℕ
+anew asked = replicate (roomLength asked) 0xA5
+
+-- nanoseconds (8)
+unfoldable pub nanoseconds : List ℕ → ℕ
+nanoseconds s = at32 s 0 * 4294967296 + at32 s 4
+
+-- what a record prints, and the memory and the room that it leaves
+pub record Deed : Type 0 where
+  pub line : List ℕ
+  pub memory : List ℕ
+  pub room : List ℕ
+
+abbrev pub printed : List ℕ → List ℕ → List ℕ → Deed
+printed line m room = record { line = line; memory = m; room = room }
+
+-- a call's line; one that is lent no room leaves that of the last
+abbrev pub alone : Outcome → List ℕ → Deed
+alone o room = printed (lineOf o) (o .memory) room
+
+abbrev pub within : Outcome → Deed
+within o = printed (lineOf o) (o .memory) (o .room)
+
+-- by code, as above; an unknown code does nothing
+unfoldable pub deed : ℕ → List ℕ → List ℕ → List ℕ → Deed
+deed code body m room =
+    let sent = drop 2 body in
+    let made = anew (at16 body 0) in
+    getD
+    (alone (makeFresh m) room
+    ∷ within (message m sent made)
+    ∷ alone (localValue m (at16 body 0) sent) room
+    ∷ within (build m made)
+    ∷ alone (expiry m) room
+    ∷ printed (lentLine (length body)) body room
+    ∷ printed (octetsLine m) m room
+    ∷ printed (octetsLine room) m room
+    ∷ printed (octetsLine (delay (nanoseconds body))) m room
+    ∷ [])
+    code
+    (printed [] m room)

@@ -1,0 +1,44 @@
+-- What the program's functions say of records: what is lent, what a record that is taken leaves, what is left of the input.
+use Prim.Native.Nat.{ℕ, _+_, _≤_, _<_}
+use mathlib.Core.Path.{_≡_}
+use mathlib.Core.Bool.{true, false}
+use mathlib.Core.List.{List}
+use lib.ListN.{length, take}
+use Rattle.meaning.specs.Octets.{splice}
+use Rattle.rig.specs.Records.{Deed, bodyRight, deed}
+use Rattle.rig.specs.declared.Lent.{Lent}
+use Rattle.rig.specs.declared.Took.{Took}
+use Rattle.rig.specs.declared.Took.the-variants.{Line, Faulty}
+use Rattle.rig.specs.declared.Served.{Served}
+use Rattle.rig.specs.declared.Served.the-variants.{Rest, Over}
+
+-- a line has been written at a place
+abbrev pub Wrote : List ℕ → List ℕ → ℕ → ℕ → List ℕ → Type 0
+Wrote line out at end out′ = (end ≡ at + length line) × (out′ ≡ splice out at line)
+
+-- what is lent lies within the arrays
+abbrev pub Lends : Lent → Type 0
+Lends lent = (lent .memory ≤ 2200) × (lent .room ≤ 8192)
+
+-- and there is room for the longest line at a place
+abbrev pub Ready : List ℕ → List ℕ → Lent → List ℕ → ℕ → Type 0
+Ready memory room lent out at = (length memory ≡ 2200) × (length room ≡ 8192) × Lends lent × (at + 16389 ≤ length out)
+
+-- a record that did d: its line has been written, and what is lent from now on is as it says
+pub record Leaves (d : Deed) (out : List ℕ) (at end : ℕ) (lent : Lent) (memory room out′ : List ℕ) : Type 0 where
+  pub wrote : Wrote (d .line) out at end out′
+  pub short : end ≤ at + 16389
+  pub lends : Lends lent
+  pub memoryIs : take (lent .memory) memory ≡ d .memory
+  pub roomIs : take (lent .room) room ≡ d .room
+
+-- a record is taken where its body is right, and then does what its definition says of what was lent; else nothing is written
+abbrev pub Takes : ℕ → List ℕ → List ℕ → List ℕ → Lent → List ℕ → ℕ → Took → List ℕ → List ℕ → List ℕ → Type 0
+Takes code body memory room lent out at (Line end lends) memory′ room′ out′ =
+    (bodyRight code (length body) ≡ true) × Leaves (deed code body (take (lent .memory) memory) (take (lent .room) room)) out at end lends memory′ room′ out′
+Takes code body memory room lent out at Faulty memory′ room′ out′ = (bodyRight code (length body) ≡ false) × (out′ ≡ out)
+
+-- what is left of n octets is less than the longest record, so there is room to read more
+abbrev pub Left : ℕ → Served → Type 0
+Left n (Rest from lent) = (from ≤ n) × (n < from + 65538) × Lends lent
+Left n Over = Unit {0}
