@@ -10,19 +10,19 @@ use Rattle.meaning.specs.Calls.{Outcome, makeFresh, message, localValue, build,
 use Rattle.text.specs.Lines.{octetsLine, lentLine}
 use Rattle.text.specs.Answers.{lineOf}
 
--- a known code has a body of so many octets
+-- the length of a body, by the record's code; no other code is known
 unfoldable pub bodyRight : ℕ → ℕ → Bool
 bodyRight code n =
     getD
-    (eqb n 0  -- make the lent memory fresh
-    ∷ leb 2 n  -- message: room length (2), message
-    ∷ leb 2 n  -- local value: name (2), value
-    ∷ eqb n 2  -- build a notification: room length (2)
-    ∷ eqb n 0  -- timer expiry
-    ∷ leb n 2200  -- lend other memory: 0 to 2,200 octets
-    ∷ eqb n 0  -- show memory
-    ∷ eqb n 0  -- show the room of the last message or notification
-    ∷ eqb n 8  -- delay conversion: nanoseconds (8)
+    (eqb n 0  -- 00 make the lent memory fresh
+    ∷ leb 2 n  -- 01 message: room length (2), message
+    ∷ leb 2 n  -- 02 local value: name (2), value
+    ∷ eqb n 2  -- 03 build a notification: room length (2)
+    ∷ eqb n 0  -- 04 timer expiry
+    ∷ leb n 2200  -- 05 lend other memory: 0 to 2,200 octets
+    ∷ eqb n 0  -- 06 show memory
+    ∷ eqb n 0  -- 07 show the room of the last message or notification
+    ∷ eqb n 8  -- 08 delay conversion: nanoseconds (8)
     ∷ []) code false
 
 -- a room made anew: at most 8,192 octets, each A5
@@ -32,7 +32,7 @@ roomLength asked = cond (ltb asked 8192) asked 8192
 unfoldable pub anew : ℕ → List ℕ
 anew asked = replicate (roomLength asked) 0xA5
 
--- nanoseconds (8)
+-- the number that eight octets spell, the high octet first
 unfoldable pub nanoseconds : List ℕ → ℕ
 nanoseconds s = at32 s 0 * 4294967296 + at32 s 4
 
@@ -52,7 +52,7 @@ alone o room = printed (lineOf o) (o .memory) room
 abbrev pub within : Outcome → Deed
 within o = printed (lineOf o) (o .memory) (o .room)
 
--- by code, as above; an unknown code does nothing
+-- by code, as above; a code that is not known does nothing
 unfoldable pub deed : ℕ → List ℕ → List ℕ → List ℕ → Deed
 deed code body m room =
     let sent = drop 2 body in

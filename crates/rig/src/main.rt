@@ -92,8 +92,9 @@ fn make_room(room: &mut [u8], asked: usize) -> usize
     n
 }
 
-// ---- the calls, each with its line
+// ---- the calls, each with its line written at a place; the place after it
 
+// A message taken.
 fn message(memory: &mut [u8], sent: &[u8], room: &mut [u8], out: &mut [u8], at: usize) -> usize
     requires { ⌜ at + (length (now room) + length (now room) + 5) ≤ length (now out) ⌝ }
     ensures { λ r. ⌜ r ≤ at + (length (now (room .entry)) + length (now (room .entry)) + 5) ⌝ }
@@ -103,6 +104,7 @@ fn message(memory: &mut [u8], sent: &[u8], room: &mut [u8], out: &mut [u8], at: 
     text::write_outcome(out, at, outcome, room)
 }
 
+// A notification built.
 fn build(memory: &mut [u8], room: &mut [u8], out: &mut [u8], at: usize) -> usize
     requires { ⌜ at + (length (now room) + length (now room) + 5) ≤ length (now out) ⌝ }
     ensures { λ r. ⌜ r ≤ at + (length (now (room .entry)) + length (now (room .entry)) + 5) ⌝ }
@@ -112,6 +114,7 @@ fn build(memory: &mut [u8], room: &mut [u8], out: &mut [u8], at: usize) -> usize
     text::write_outcome(out, at, outcome, room)
 }
 
+// A local value taken. It is lent no room, and so are the two below.
 fn local_value(memory: &mut [u8], name: usize, value: &[u8], out: &mut [u8], at: usize) -> usize
     requires { ⌜ at + 5 ≤ length (now out) ⌝ }
     ensures { λ r. ⌜ r ≤ at + 5 ⌝ }
@@ -121,6 +124,7 @@ fn local_value(memory: &mut [u8], name: usize, value: &[u8], out: &mut [u8], at:
     text::write_outcome(out, at, outcome, b"")
 }
 
+// A timer expiry taken.
 fn expiry(memory: &mut [u8], out: &mut [u8], at: usize) -> usize
     requires { ⌜ at + 5 ≤ length (now out) ⌝ }
     ensures { λ r. ⌜ r ≤ at + 5 ⌝ }
@@ -130,6 +134,7 @@ fn expiry(memory: &mut [u8], out: &mut [u8], at: usize) -> usize
     text::write_outcome(out, at, outcome, b"")
 }
 
+// Memory made fresh.
 fn make_fresh(memory: &mut [u8], out: &mut [u8], at: usize) -> usize
     requires { ⌜ at + 5 ≤ length (now out) ⌝ }
     ensures { λ r. ⌜ r ≤ at + 5 ⌝ }

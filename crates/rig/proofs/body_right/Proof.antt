@@ -1,7 +1,7 @@
 -- `rig::body_right` meets its contract.
 use mathlib.Core.Path.{sym}
-use Rattle.rig.proofs.Codes.{other}
 use Rattle.rig.specs.Records.{bodyRight}
+use Rattle.rig.proofs.Codes.{other}
 use Rattle.rig.proofs.body_right.Statement.{statement}
 use Rattle.rig.proofs.body_right.Tie as tie
 
