@@ -190,10 +190,10 @@ pub fn build(memory: &mut [u8], room: &mut [u8]) -> Outcome
     if due.values + due.absent == 0 {
         return Outcome::NothingPending;
     }
-    let n = notification::write(memory, due, room);
+    let end = notification::write(memory, due, room);
     notification::clear(memory);
     memory::set_clock(memory, 1, 0);
-    Outcome::Done(n)
+    Outcome::Done(end)
 }
 
 // A timer expiry taken, of the timer that runs from the sending of a notification.

@@ -20,7 +20,7 @@ use Rattle.meaning.proofs.Records.{gathered-append, read-length}
 use Rattle.meaning.proofs.Answered.{body-length}
 use Rattle.meaning.proofs.Notified.{notification-most}
 use Rattle.octets.proofs.Splices.{then}
-use Rattle.records.specs.Writing.{Wrote}
+use Rattle.octets.specs.Writing.{Wrote}
 use Rattle.records.proofs.Pieces.{Left, left-as, left-start, wrote-this}
 use Rattle.records.proofs.Lengths.{held-length, failed-length}
 use Rattle.notification.specs.declared.Due.{Due}

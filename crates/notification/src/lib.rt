@@ -7,7 +7,7 @@ ghost use lib.ListN.{length};
 ghost use Rattle.meaning.specs.Table.{memoryLength, entryCount};
 ghost use Rattle.meaning.specs.Memory.{sound};
 ghost use Rattle.meaning.specs.Calls.{reports, notification, cleared};
-ghost use Rattle.records.specs.Writing.{Wrote};
+ghost use Rattle.octets.specs.Writing.{Wrote};
 ghost use Rattle.notification.specs.Reports.{Few, more, dueAt, dueOf, partOf};
 
 // The records due: how many values with their octets, and how many absent ones.

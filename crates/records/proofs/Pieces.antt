@@ -8,7 +8,7 @@ use lib.ListN.{length, drop, length-append}
 use Rattle.meaning.specs.Octets.{splice}
 use Rattle.meaning.proofs.Lists.{splice-length}
 use Rattle.octets.proofs.Splices.{splice-nil, splice-splice}
-use Rattle.records.specs.Writing.{Wrote}
+use Rattle.octets.specs.Writing.{Wrote}
 
 pub wrote-none : (out : List ℕ) (at : ℕ) {w : List ℕ} → w ≡ [] → Wrote out at w at out
 wrote-none out at e = rw (e, splice-nil out at) (sym (add-zero at), refl)

@@ -14,7 +14,7 @@ use Rattle.meaning.specs.Reply.{Held, Failed, Records, heldOctets, shortOctets,
 use Rattle.meaning.proofs.Tests.{every-at}
 use Rattle.meaning.proofs.Kept.{after-sound}
 use Rattle.meaning.proofs.Records.{Fits, fits-opened}
-use Rattle.records.specs.Writing.{Wrote}
+use Rattle.octets.specs.Writing.{Wrote}
 use Rattle.records.proofs.Lengths.{names-length}
 use Rattle.records.proofs.Pieces.{Left, left-start, left-as, first-fits, left-next}
 use Rattle.command.proofs.Sets.{long-of}

@@ -9,7 +9,7 @@ ghost use lib.ListN.{length, drop};
 ghost use Rattle.meaning.specs.Operation.{parse, orNone};
 ghost use Rattle.meaning.specs.Step.{after};
 ghost use Rattle.meaning.specs.Reply.{allNames, element, complete};
-ghost use Rattle.records.specs.Writing.{Wrote};
+ghost use Rattle.octets.specs.Writing.{Wrote};
 ghost use Rattle.tally.specs.Tallies.{tallyFits, Below};
 ghost use Rattle.section.specs.Kinds.{section, recordsOf};
 ghost use Rattle.reply.specs.Sections.{order, countOf, opening, further, longLength, front, piece, Ready, Fitting};

@@ -9,12 +9,13 @@ use lib.Seq.{take-at, take-all}
 use Rattle.meaning.specs.Octets.{splice}
 use Rattle.meaning.specs.Delay.{lowFirst, delay}
 use Rattle.meaning.specs.Calls.{Outcome}
+use Rattle.octets.specs.Writing.{Wrote}
 use Rattle.octets.proofs.Splices.{splice-front}
 use Rattle.text.specs.Answers.{Answers}
 use Rattle.text.specs.Lines.{octetsLine, lentLine}
 use Rattle.text.proofs.Writes.{octets-short, lent-short}
 use Rattle.rig.specs.Records.{Deed, roomLength, anew, printed, alone, within}
-use Rattle.rig.specs.Takes.{Wrote, Lends, Leaves}
+use Rattle.rig.specs.Takes.{Lends, Leaves}
 use Rattle.rig.specs.declared.Lent.{Lent}
 
 -- a room's front, filled
@@ -32,7 +33,7 @@ delay-short n = omega (arith, octets-short (delay n))
 
 module _ (out : List ℕ) (at : ℕ) (lent : Lent) {end : ℕ} {out′ : List ℕ} {d : Deed} (b : Lends lent) where
   -- a line alone: memory and room stay
-  pub line-left : (line m room : List ℕ) → d ≡ printed line (take (lent .memory) m) (take (lent .room) room) → Wrote line out at end out′ → length line ≤ 16389
+  pub line-left : (line m room : List ℕ) → d ≡ printed line (take (lent .memory) m) (take (lent .room) room) → Wrote out at line end out′ → length line ≤ 16389
       → Leaves d out at end lent m room out′
   line-left line m room e w s = rw e (record { wrote = w; short = omega arith; lends = b; memoryIs = refl; roomIs = refl })
 
@@ -64,7 +65,7 @@ module _ (out : List ℕ) (at : ℕ) (lent : Lent) {end : ℕ} {out′ : List �
 
   -- other memory
   pub lend-left : (body m m′ room : List ℕ) → d ≡ printed (lentLine (length body)) body (take (lent .room) room) → lent .memory ≡ 0 + length body → m′ ≡ splice m 0 body
-      → Wrote (lentLine (lent .memory)) out at end out′ → Leaves d out at end lent m′ room out′
+      → Wrote out at (lentLine (lent .memory)) end out′ → Leaves d out at end lent m′ room out′
   lend-left body m m′ room e n f w =
       let k : lent .memory ≡ length body = n ∙ zero-add (length body) in
       rw e

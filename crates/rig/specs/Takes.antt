@@ -4,17 +4,13 @@ use mathlib.Core.Path.{_≡_}
 use mathlib.Core.Bool.{true, false}
 use mathlib.Core.List.{List}
 use lib.ListN.{length, take}
-use Rattle.meaning.specs.Octets.{splice}
+use Rattle.octets.specs.Writing.{Wrote}
 use Rattle.rig.specs.Records.{Deed, bodyRight, deed}
 use Rattle.rig.specs.declared.Lent.{Lent}
 use Rattle.rig.specs.declared.Took.{Took}
 use Rattle.rig.specs.declared.Took.the-variants.{Line, Faulty}
 use Rattle.rig.specs.declared.Served.{Served}
 use Rattle.rig.specs.declared.Served.the-variants.{Rest, Over}
-
--- a line has been written at a place
-abbrev pub Wrote : List ℕ → List ℕ → ℕ → ℕ → List ℕ → Type 0
-Wrote line out at end out′ = (end ≡ at + length line) × (out′ ≡ splice out at line)
 
 -- what is lent lies within the arrays
 abbrev pub Lends : Lent → Type 0
@@ -26,7 +22,7 @@ Ready memory room lent out at = (length memory ≡ 2200) × (length room ≡ 819
 
 -- a record that did d: its line has been written, and what is lent from now on is as it says
 pub record Leaves (d : Deed) (out : List ℕ) (at end : ℕ) (lent : Lent) (memory room out′ : List ℕ) : Type 0 where
-  pub wrote : Wrote (d .line) out at end out′
+  pub wrote : Wrote out at (d .line) end out′
   pub short : end ≤ at + 16389
   pub lends : Lends lent
   pub memoryIs : take (lent .memory) memory ≡ d .memory

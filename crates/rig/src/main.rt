@@ -10,10 +10,11 @@ ghost use lib.ListN.{length, take};
 ghost use Rattle.meaning.specs.Memory.{fresh};
 ghost use Rattle.meaning.specs.Delay.{delay};
 ghost use Rattle.meaning.specs.Calls.{message, localValue, build, expiry, makeFresh};
+ghost use Rattle.octets.specs.Writing.{Wrote};
 ghost use Rattle.text.specs.Lines.{octetsLine};
 ghost use Rattle.text.specs.Answers.{Answers};
 ghost use Rattle.rig.specs.Records.{bodyRight, roomLength, anew, nanoseconds};
-ghost use Rattle.rig.specs.Takes.{Wrote, Ready, Takes, Left};
+ghost use Rattle.rig.specs.Takes.{Ready, Takes, Left};
 
 // Octets of a record's head: its code, its length.
 const HEAD: usize = 3;
@@ -147,7 +148,7 @@ fn make_fresh(memory: &mut [u8], out: &mut [u8], at: usize) -> usize
 // The line of a delay, from its nanoseconds.
 fn show_delay(body: &[u8], out: &mut [u8], at: usize) -> usize
     requires { ⌜ (length (now body) ≡ 8) × (at + 18 ≤ length (now out)) ⌝ }
-    ensures { λ r. ⌜ Wrote (octetsLine (delay (nanoseconds (now (body .entry))))) (now (out .entry)) at r (now (out .exit)) ⌝ }
+    ensures { λ r. ⌜ Wrote (now (out .entry)) at (octetsLine (delay (nanoseconds (now (body .entry))))) r (now (out .exit)) ⌝ }
 {
     let time = octets::get32(body, 0) * 4294967296 + octets::get32(body, 4);
     let stored = endpoint::delay_octets(delay::Nanoseconds(time));

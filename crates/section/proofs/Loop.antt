@@ -19,7 +19,7 @@ use Rattle.operation.specs.declared.Handed.the-variants.{Operation}
 use Rattle.operation.specs.Handing.{opOf}
 use Rattle.operation.proofs.Handed.{the-type}
 use Rattle.operation.proofs.Turns.{HandsOut}
-use Rattle.records.specs.Writing.{Wrote}
+use Rattle.octets.specs.Writing.{Wrote}
 use Rattle.records.proofs.Pieces.{Left, left-start, left-as, first-fits, left-next, left-none}
 use Rattle.command.specs.declared.Answer.{Answer}
 use Rattle.command.specs.Answers.{answerOf}

@@ -10,7 +10,7 @@ ghost use Rattle.meaning.specs.Operation.{parse, isSome, orNone};
 ghost use Rattle.meaning.specs.Step.{shown, after};
 ghost use Rattle.meaning.specs.Reply.{recordOf, heldOctets};
 ghost use Rattle.operation.specs.Handing.{Inside};
-ghost use Rattle.records.specs.Writing.{Wrote};
+ghost use Rattle.octets.specs.Writing.{Wrote};
 ghost use Rattle.command.specs.Answers.{answerOf, Told};
 ghost use Rattle.section.specs.Kinds.{section, recordsOf};
 use command::Answer;

@@ -3,7 +3,7 @@
 ghost use Prim.Native.Nat.{_+_, _≤_, _<_};
 ghost use mathlib.Core.Path.{_≡_};
 ghost use lib.ListN.{length};
-ghost use Rattle.meaning.specs.Octets.{splice};
+ghost use Rattle.octets.specs.Writing.{Wrote};
 ghost use Rattle.endpoint.specs.Outcomes.{lengthOf};
 ghost use Rattle.text.specs.Lines.{digit as Lines·digit, hex, decimal, shownOctets, octetsLine, line, longDecimal, lentLine};
 ghost use Rattle.text.specs.Answers.{answerLine};
@@ -20,7 +20,7 @@ fn digit(d: u8) -> u8
 // Octets as two digits each.
 pub fn write_hex(out: &mut [u8], at: usize, src: &[u8]) -> usize
     requires { ⌜ at + (length (now src) + length (now src)) ≤ length (now out) ⌝ }
-    ensures { λ r. ⌜ (r ≡ at + length (hex (now (src .entry)))) × (now (out .exit) ≡ splice (now (out .entry)) at (hex (now (src .entry)))) ⌝ }
+    ensures { λ r. ⌜ Wrote (now (out .entry)) at (hex (now (src .entry))) r (now (out .exit)) ⌝ }
 {
     let mut to = at;
     let mut i = 0;
@@ -37,7 +37,7 @@ pub fn write_hex(out: &mut [u8], at: usize, src: &[u8]) -> usize
 // A number under 100.
 fn write_decimal(out: &mut [u8], at: usize, number: usize) -> usize
     requires { ⌜ (number < 100) × (at + 2 ≤ length (now out)) ⌝ }
-    ensures { λ r. ⌜ (r ≡ at + length (decimal number)) × (now (out .exit) ≡ splice (now (out .entry)) at (decimal number)) ⌝ }
+    ensures { λ r. ⌜ Wrote (now (out .entry)) at (decimal number) r (now (out .exit)) ⌝ }
 {
     if number < 10 {
         out[at] = digit(number as u8);
@@ -51,7 +51,7 @@ fn write_decimal(out: &mut [u8], at: usize, number: usize) -> usize
 // Octets, or `-` for none.
 fn write_shown(out: &mut [u8], at: usize, src: &[u8]) -> usize
     requires { ⌜ at + (length (now src) + length (now src) + 1) ≤ length (now out) ⌝ }
-    ensures { λ r. ⌜ (r ≡ at + length (shownOctets (now (src .entry)))) × (now (out .exit) ≡ splice (now (out .entry)) at (shownOctets (now (src .entry)))) ⌝ }
+    ensures { λ r. ⌜ Wrote (now (out .entry)) at (shownOctets (now (src .entry))) r (now (out .exit)) ⌝ }
 {
     if src.len() == 0 {
         out[at] = b'-';
@@ -63,7 +63,7 @@ fn write_shown(out: &mut [u8], at: usize, src: &[u8]) -> usize
 // A line of octets alone.
 pub fn write_octets(out: &mut [u8], at: usize, src: &[u8]) -> usize
     requires { ⌜ at + (length (now src) + length (now src) + 2) ≤ length (now out) ⌝ }
-    ensures { λ r. ⌜ (r ≡ at + length (octetsLine (now (src .entry)))) × (now (out .exit) ≡ splice (now (out .entry)) at (octetsLine (now (src .entry)))) ⌝ }
+    ensures { λ r. ⌜ Wrote (now (out .entry)) at (octetsLine (now (src .entry))) r (now (out .exit)) ⌝ }
 {
     let end = write_shown(out, at, src);
     out[end] = b'\n';
@@ -73,7 +73,7 @@ pub fn write_octets(out: &mut [u8], at: usize, src: &[u8]) -> usize
 // A line: a number under 100, a space, octets.
 pub fn write_line(out: &mut [u8], at: usize, number: usize, reply: &[u8]) -> usize
     requires { ⌜ (number < 100) × (at + (length (now reply) + length (now reply) + 5) ≤ length (now out)) ⌝ }
-    ensures { λ r. ⌜ (r ≡ at + length (line number (now (reply .entry)))) × (now (out .exit) ≡ splice (now (out .entry)) at (line number (now (reply .entry)))) ⌝ }
+    ensures { λ r. ⌜ Wrote (now (out .entry)) at (line number (now (reply .entry))) r (now (out .exit)) ⌝ }
 {
     let space = write_decimal(out, at, number);
     out[space] = b' ';
@@ -83,7 +83,7 @@ pub fn write_line(out: &mut [u8], at: usize, number: usize, reply: &[u8]) -> usi
 // The line of an outcome: its number, and what its call wrote at the start of a room.
 pub fn write_outcome(out: &mut [u8], at: usize, outcome: endpoint::Outcome, room: &[u8]) -> usize
     requires { ⌜ (lengthOf outcome ≤ length (now room)) × (at + (length (now room) + length (now room) + 5) ≤ length (now out)) ⌝ }
-    ensures { λ r. ⌜ (r ≡ at + length (answerLine outcome (now (room .entry)))) × (now (out .exit) ≡ splice (now (out .entry)) at (answerLine outcome (now (room .entry)))) ⌝ }
+    ensures { λ r. ⌜ Wrote (now (out .entry)) at (answerLine outcome (now (room .entry))) r (now (out .exit)) ⌝ }
 {
     let n = endpoint::written(outcome);
     write_line(out, at, endpoint::number(outcome), &room[..n])
@@ -92,7 +92,7 @@ pub fn write_outcome(out: &mut [u8], at: usize, outcome: endpoint::Outcome, room
 // A number under 10,000.
 fn write_long_decimal(out: &mut [u8], at: usize, number: usize) -> usize
     requires { ⌜ (number < 10000) × (at + 4 ≤ length (now out)) ⌝ }
-    ensures { λ r. ⌜ (r ≡ at + length (longDecimal number)) × (now (out .exit) ≡ splice (now (out .entry)) at (longDecimal number)) ⌝ }
+    ensures { λ r. ⌜ Wrote (now (out .entry)) at (longDecimal number) r (now (out .exit)) ⌝ }
 {
     if number < 100 {
         return write_decimal(out, at, number);
@@ -106,7 +106,7 @@ fn write_long_decimal(out: &mut [u8], at: usize, number: usize) -> usize
 // The line that tells how much was lent.
 pub fn write_lent(out: &mut [u8], at: usize, lent: usize) -> usize
     requires { ⌜ (lent < 10000) × (at + 10 ≤ length (now out)) ⌝ }
-    ensures { λ r. ⌜ (r ≡ at + length (lentLine lent)) × (now (out .exit) ≡ splice (now (out .entry)) at (lentLine lent)) ⌝ }
+    ensures { λ r. ⌜ Wrote (now (out .entry)) at (lentLine lent) r (now (out .exit)) ⌝ }
 {
     let number = octets::append(out, at, b"lent ");
     let end = write_long_decimal(out, number, lent);

@@ -5,7 +5,7 @@ use mathlib.Core.Path.{_≡_, refl, sym, ap, _∙_}
 use lib.ListN.{length}
 use borrow.Author.Needs.{needs}
 use Rattle.meaning.specs.Calls.{reports}
-use Rattle.records.specs.Writing.{Wrote}
+use Rattle.octets.specs.Writing.{Wrote}
 use Rattle.records.proofs.Pieces.{wrote-none, wrote-this}
 use Rattle.notification.specs.Reports.{partOf}
 use Rattle.notification.proofs.Reported.{part-start, part-within, kind-next}

@@ -1,0 +1,2 @@
+-- What the contracts of those who write octets say of a room.
+pub mod Writing
