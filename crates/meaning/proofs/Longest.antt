@@ -1,9 +1,9 @@
 -- The bound of a notification's length is reached: a port sends one of 559 octets.
-use Prim.Native.Nat.{ℕ, zero, suc, _+_}
+use Prim.Native.Nat.{ℕ}
 use mathlib.Core.Path.{_≡_, refl}
 use mathlib.Core.Bool.{true}
-use mathlib.Core.List.{List, [], _∷_, _++_}
-use lib.ListN.{length, replicate}
+use mathlib.Core.List.{List, [], _∷_}
+use lib.ListN.{length}
 use Rattle.meaning.specs.Octets.{be16, flat, zeros}
 use Rattle.meaning.specs.Memory.{sound, fresh}
 use Rattle.meaning.specs.Calls.{notification}

@@ -171,3 +171,28 @@ build-room m room =
     let e1 = first-passed 0 _ _ e in
     let e11 = first-passed 10 _ _ (e1 .1) in
     omega (arith, notification-most m (e1 .0), leb-true 1600 (length room) (e11 .0)))
+
+-- a call that is lent no room writes nothing
+
+told-room : (n : ℕ) (m : List ℕ) → RoomAfter (told n m []) []
+told-room n m = record { inRoom = omega arith; long = refl; after = refl }
+
+call-no-room : (cs : Checks) (o : Outcome) (m : List ℕ) → RoomAfter o [] → RoomAfter (call cs o m []) []
+unfolding call settle
+call-no-room cs o m h = go (firstFailed cs)
+  where
+    go : (f : ℕ) → RoomAfter (settle f o (λ n. told n m [])) []
+    go zero = h
+    go (suc f) = told-room (suc f) m
+
+pub localValue-room : (m : List ℕ) (n : ℕ) (v : List ℕ) → RoomAfter (localValue m n v) []
+unfolding localValue
+localValue-room m n v = call-no-room _ _ m (told-room 0 _)
+
+pub expiry-room : (m : List ℕ) → RoomAfter (expiry m) []
+unfolding expiry
+expiry-room m = call-no-room _ _ m (expired-either (λ o. RoomAfter o []) m (λ h. told-room 20 _) (told-room 21 _))
+
+pub makeFresh-room : (m : List ℕ) → RoomAfter (makeFresh m) []
+unfolding makeFresh
+makeFresh-room m = call-no-room _ _ m (told-room 0 _)

@@ -8,7 +8,7 @@ use mathlib.Core.Logic.{_≢_}
 use mathlib.Core.Bool.{Bool, true, false, cond}
 use mathlib.Core.List.{List, [], _∷_, _++_, append-nil}
 use lib.ListN.{length, length-append}
-use Rattle.meaning.specs.Octets.{be16, flat, splice, nonempty}
+use Rattle.meaning.specs.Octets.{be16, flat, nonempty}
 use Rattle.meaning.specs.Table.{rowAt, entryCount}
 use Rattle.meaning.specs.Memory.{present, pending, body, sound}
 use Rattle.meaning.specs.Step.{Answer, value, readError}
@@ -19,8 +19,8 @@ use Rattle.meaning.proofs.Places.{most-small}
 use Rattle.meaning.proofs.Records.{gathered-append, read-length}
 use Rattle.meaning.proofs.Answered.{body-length}
 use Rattle.meaning.proofs.Notified.{notification-most}
-use Rattle.octets.proofs.Splices.{then}
 use Rattle.octets.specs.Writing.{Wrote}
+use Rattle.octets.proofs.Splices.{then}
 use Rattle.records.proofs.Pieces.{Left, left-as, left-start, wrote-this}
 use Rattle.records.proofs.Lengths.{held-length, failed-length}
 use Rattle.notification.specs.declared.Due.{Due}
@@ -76,17 +76,6 @@ module _ (m : List ℕ) (k : ℕ) where
     pub part-not-absent : v ≡ false → present m k ≡ true → partOf v (dueAt m k) ≡ []
     unfolding dueAt report partOf gathered recordOf flat
     part-not-absent t e = rw (t, p, e)
-
--- what the writing of a record leaves
-pub held-written : (out : List ℕ) (at n : ℕ) (b : List ℕ) {w out′ : List ℕ} {end : ℕ} → w ≡ heldOctets (record { name = n; value = b })
-    → (end ≡ at + (4 + length b)) × (out′ ≡ splice out at (heldOctets (record { name = n; value = b }))) → Wrote out at w end out′
-held-written out at n b e w =
-    wrote-this out at e (w .0 ∙ ap (λ (l : ℕ). at + l) (sym (held-length (record { name = n; value = b }))), w .1)
-
-pub failed-written : (out : List ℕ) (at n c : ℕ) {w out′ : List ℕ} {end : ℕ} → w ≡ failedOctets (record { name = n; cause = c })
-    → (end ≡ at + 3) × (out′ ≡ splice out at (failedOctets (record { name = n; cause = c }))) → Wrote out at w end out′
-failed-written out at n c e w =
-    wrote-this out at e (w .0 ∙ ap (λ (l : ℕ). at + l) (sym (failed-length (record { name = n; cause = c }))), w .1)
 
 -- the records of a kind among the first entries are no longer than all of them
 pub part-within : (v : Bool) (m : List ℕ) (k : ℕ) → k < entryCount

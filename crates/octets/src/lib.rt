@@ -5,6 +5,7 @@ ghost use mathlib.Core.Path.{_≡_};
 ghost use mathlib.Core.List.{_++_};
 ghost use lib.ListN.{length, take};
 ghost use Rattle.meaning.specs.Octets.{at16, at32, be16, be32, splice, zeros, blank};
+ghost use Rattle.octets.specs.Writing.{Wrote};
 
 // An octet as a number.
 pub fn wide(x: u8) -> usize
@@ -73,7 +74,7 @@ pub fn fill(room: &mut [u8], value: &[u8])
 // Octets written at a place; the place after them.
 pub fn append(out: &mut [u8], at: usize, src: &[u8]) -> usize
     requires { ⌜ at + length (now src) ≤ length (now out) ⌝ }
-    ensures { λ r. ⌜ (r ≡ at + length (now (src .entry))) × (now (out .exit) ≡ splice (now (out .entry)) at (now (src .entry))) ⌝ }
+    ensures { λ r. ⌜ Wrote (now (out .entry)) at (now (src .entry)) r (now (out .exit)) ⌝ }
 {
     let end = at + src.len();
     bytes::copy(src, &mut out[at..end]);

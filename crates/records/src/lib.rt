@@ -1,16 +1,16 @@
 // The records of replies and notifications, each written at a place of a room; every function returns the place after it.
-// What the room holds afterwards is a splice of the octets that `meaning` gives for the record.
+// What has been written are the octets that `meaning` gives for the record; the room's other octets stay.
 ghost use Prim.Native.Nat.{_+_, _≤_, _<_};
-ghost use mathlib.Core.Path.{_≡_};
 ghost use mathlib.Core.List.{[], _∷_};
 ghost use lib.ListN.{length};
-ghost use Rattle.meaning.specs.Octets.{be16, splice};
+ghost use Rattle.meaning.specs.Octets.{be16};
 ghost use Rattle.meaning.specs.Reply.{heldOctets, shortOctets, failedOctets, allNames};
+ghost use Rattle.octets.specs.Writing.{Wrote};
 
 // A value: name (2), length (2), the value.
 pub fn write_held(out: &mut [u8], at: usize, name: usize, value: &[u8]) -> usize
     requires { ⌜ (at + (4 + length (now value)) ≤ length (now out)) × (name < 65536) × (length (now value) < 65536) ⌝ }
-    ensures { λ r. ⌜ (r ≡ at + (4 + length (now (value .entry)))) × (now (out .exit) ≡ splice (now (out .entry)) at (heldOctets (record { name = name; value = now (value .entry) }))) ⌝ }
+    ensures { λ r. ⌜ Wrote (now (out .entry)) at (heldOctets (record { name = name; value = now (value .entry) })) r (now (out .exit)) ⌝ }
 {
     octets::put16(out, at, name);
     octets::put16(out, at + 2, value.len());
@@ -20,7 +20,7 @@ pub fn write_held(out: &mut [u8], at: usize, name: usize, value: &[u8]) -> usize
 // A value of at most 255 octets: name (2), length (1), the value.
 pub fn write_short(out: &mut [u8], at: usize, name: usize, value: &[u8]) -> usize
     requires { ⌜ (at + (3 + length (now value)) ≤ length (now out)) × (name < 65536) × (length (now value) ≤ 255) ⌝ }
-    ensures { λ r. ⌜ (r ≡ at + (3 + length (now (value .entry)))) × (now (out .exit) ≡ splice (now (out .entry)) at (shortOctets (record { name = name; value = now (value .entry) }))) ⌝ }
+    ensures { λ r. ⌜ Wrote (now (out .entry)) at (shortOctets (record { name = name; value = now (value .entry) })) r (now (out .exit)) ⌝ }
 {
     octets::put16(out, at, name);
     out[at + 2] = value.len() as u8;
@@ -30,7 +30,7 @@ pub fn write_short(out: &mut [u8], at: usize, name: usize, value: &[u8]) -> usiz
 // An error: name (2), cause (1).
 pub fn write_failed(out: &mut [u8], at: usize, name: usize, cause: u8) -> usize
     requires { ⌜ (at + 3 ≤ length (now out)) × (name < 65536) ⌝ }
-    ensures { λ r. ⌜ (r ≡ at + 3) × (now (out .exit) ≡ splice (now (out .entry)) at (failedOctets (record { name = name; cause = cause }))) ⌝ }
+    ensures { λ r. ⌜ Wrote (now (out .entry)) at (failedOctets (record { name = name; cause = cause })) r (now (out .exit)) ⌝ }
 {
     octets::put16(out, at, name);
     out[at + 2] = cause;
@@ -40,7 +40,7 @@ pub fn write_failed(out: &mut [u8], at: usize, name: usize, cause: u8) -> usize
 // The head of an element: identifier (1), length (2).
 pub fn write_head(out: &mut [u8], at: usize, id: u8, n: usize) -> usize
     requires { ⌜ (at + 3 ≤ length (now out)) × (n < 65536) ⌝ }
-    ensures { λ r. ⌜ (r ≡ at + 3) × (now (out .exit) ≡ splice (now (out .entry)) at (id ∷ be16 n)) ⌝ }
+    ensures { λ r. ⌜ Wrote (now (out .entry)) at (id ∷ be16 n) r (now (out .exit)) ⌝ }
 {
     out[at] = id;
     octets::put16(out, at + 1, n);
@@ -50,7 +50,7 @@ pub fn write_head(out: &mut [u8], at: usize, id: u8, n: usize) -> usize
 // All 19 names in table order, each of 2 octets.
 pub fn write_names(out: &mut [u8], at: usize) -> usize
     requires { ⌜ at + 38 ≤ length (now out) ⌝ }
-    ensures { λ r. ⌜ (r ≡ at + 38) × (now (out .exit) ≡ splice (now (out .entry)) at allNames) ⌝ }
+    ensures { λ r. ⌜ Wrote (now (out .entry)) at allNames r (now (out .exit)) ⌝ }
 {
     let mut k: usize = 0;
     while k < table::ENTRY_COUNT {
@@ -64,7 +64,7 @@ pub fn write_names(out: &mut [u8], at: usize) -> usize
 // A count of records, one octet.
 pub fn write_count(out: &mut [u8], at: usize, count: usize) -> usize
     requires { ⌜ (at + 1 ≤ length (now out)) × (count ≤ 255) ⌝ }
-    ensures { λ r. ⌜ (r ≡ at + 1) × (now (out .exit) ≡ splice (now (out .entry)) at (count ∷ [])) ⌝ }
+    ensures { λ r. ⌜ Wrote (now (out .entry)) at (count ∷ []) r (now (out .exit)) ⌝ }
 {
     out[at] = count as u8;
     at + 1

@@ -1,5 +1,4 @@
 -- A row of the code's table as a row of `meaning`.
-use Prim.Native.Nat.{ℕ}
 use Rattle.meaning.specs.Table.{controller, port, nobody}
 use Rattle.meaning.specs.Table as table
 use Rattle.schedule.specs.Rules.{ruleOf}

@@ -14,9 +14,9 @@ use Rattle.meaning.proofs.Answered.{body-length}
 use Rattle.meaning.proofs.Places.{most-small, name-small}
 use Rattle.table.proofs.Rows.{name-is}
 use Rattle.records.proofs.Lengths.{held-length, failed-length}
-use Rattle.records.proofs.Pieces.{wrote-none}
+use Rattle.records.proofs.Pieces.{wrote-none, wrote-this}
 use Rattle.notification.specs.Reports.{partOf, dueAt}
-use Rattle.notification.proofs.Reported.{part-none, part-value, part-absent, part-no-value, part-not-absent, held-written, failed-written}
+use Rattle.notification.proofs.Reported.{part-none, part-value, part-absent, part-no-value, part-not-absent}
 use Rattle.notification.proofs.write_entry.Statement.{statement}
 use Rattle.notification.proofs.write_entry.Tie as tie
 
@@ -85,7 +85,7 @@ returns-3 c =
     let q = c .before .before .before in
     let p = q .before .before .before .before in
     let a = p .before .before .before .before .before .before .args in
-    held-written (a .out .now) (a .at) (p .before .row-at .result .name) (q .body .result .now) (valued p (q .before .before .before .if2 .taken) (affirmed _ (q .before .before .if3 .left)) (q .body .ensures)) (c .before .before .write-held .ensures)
+    wrote-this (a .out .now) (a .at) (valued p (q .before .before .before .if2 .taken) (affirmed _ (q .before .before .if3 .left)) (q .body .ensures)) (c .before .before .write-held .ensures)
 
 returns-4 : tie.Need-returns-4
 returns-4 c =
@@ -107,7 +107,7 @@ returns-5 c =
     let q = c .before .before .before in
     let p = q .before .before .before in
     let a = p .before .before .before .before .before .before .args in
-    failed-written (a .out .now) (a .at) (p .before .row-at .result .name) 3 (failing p (q .before .before .if2 .left) (q .before .if4 .left)) (c .before .before .write-failed .ensures)
+    wrote-this (a .out .now) (a .at) (failing p (q .before .before .if2 .left) (q .before .if4 .left)) (c .before .before .write-failed .ensures)
 
 pub write-entry-spec : {M : Type 1} → statement M
 write-entry-spec =

@@ -1,6 +1,8 @@
 -- `records::write_failed` meets its contract.
-use mathlib.Core.Path.{refl}
+use Prim.Native.Nat.{ℕ, _+_}
+use mathlib.Core.Path.{sym, ap}
 use borrow.Author.Needs.{needs}
+use Rattle.records.proofs.Lengths.{failed-length}
 use Rattle.records.proofs.Written.{failed-written}
 use Rattle.records.proofs.write_failed.Statement.{statement}
 use Rattle.records.proofs.write_failed.Tie as tie
@@ -25,7 +27,7 @@ returns c =
     let p = c .before .before in
     let s = p .before .before .before in
     let a = s .args in
-    (refl, failed-written (a .out .now) (a .at) (a .name) (a .cause) (s .pre .0) (p .put16 .kept .0) (p .put16 .ensures))
+    (ap (λ (l : ℕ). a .at + l) (sym (failed-length (record { name = a .name; cause = a .cause }))), failed-written (a .out .now) (a .at) (a .name) (a .cause) (s .pre .0) (p .put16 .kept .0) (p .put16 .ensures))
 
 pub write-failed-spec : {M : Type 1} → statement M
 write-failed-spec =

@@ -3,6 +3,7 @@ use native.Mathlib.Omega.{arith}
 use mathlib.Core.Path.{refl, _∙_}
 use lib.ListN.{length-set}
 use borrow.Author.Needs.{needs}
+use Rattle.meaning.specs.Octets.{be16}
 use Rattle.records.proofs.Written.{head-written}
 use Rattle.records.proofs.write_head.Statement.{statement}
 use Rattle.records.proofs.write_head.Tie as tie
@@ -23,6 +24,7 @@ same-length : tie.Need-same-length
 same-length c = c .before .before .put16 .kept .0 ∙ simp length-set
 
 returns : tie.Need-returns
+unfolding be16
 returns c =
     let p = c .before .before in
     let s = p .before .before .before in

@@ -1,6 +1,7 @@
 -- `records::write_held` meets its contract.
 use native.Mathlib.Omega.{arith}
 use borrow.Author.Needs.{needs}
+use Rattle.records.proofs.Lengths.{held-length}
 use Rattle.records.proofs.Written.{held-written}
 use Rattle.records.proofs.write_held.Statement.{statement}
 use Rattle.records.proofs.write_held.Tie as tie
@@ -30,7 +31,7 @@ returns c =
     let p = l .before .before .before .before in
     let s = p .before .before .before .before in
     let a = s .args in (
-      omega (arith, v .append .ensures .0),
+      omega (arith, v .append .ensures .0, held-length (record { name = a .name; value = a .value .now })),
       held-written (a .out .now) (a .value .now) (a .at) (a .name) (s .pre .0)
           (p .put16 .ensures) (l .put162 .ensures) (v .append .ensures .1),
     )

@@ -1,13 +1,14 @@
 -- `records::write_names` meets its contract. The loop's invariant: the octets of the names passed stand in the room.
-use Prim.Native.Nat.{_-_, _≤_}
+use Prim.Native.Nat.{ℕ, _+_, _-_, _≤_}
 use native.Mathlib.Omega.{arith}
-use mathlib.Core.Path.{_≡_, refl, _∙_}
+use mathlib.Core.Path.{_≡_, refl, sym, ap, _∙_}
 use lib.ListN.{length}
 use borrow.Author.Needs.{needs}
 use Rattle.meaning.specs.Octets.{splice}
 use Rattle.meaning.specs.Table.{rowAt}
 use Rattle.meaning.proofs.Places.{name-small}
 use Rattle.table.proofs.Rows.{name-is}
+use Rattle.records.proofs.Lengths.{names-length}
 use Rattle.records.proofs.Written.{firstNames, none-written, name-written, all-written}
 use Rattle.records.proofs.write_names.Statement.{statement}
 use Rattle.records.proofs.write_names.Tie as tie
@@ -66,7 +67,7 @@ returns : tie.Need-returns Inv-loop μ-loop
 returns c =
     let l = c .before .loop in
     let s = c .before .before .before in
-    (refl, all-written (s .args .out .now) (s .args .at) (l .k) (omega (arith, l .inv .0, c .loop-test .left)) (l .inv .2))
+    (ap (λ (l : ℕ). s .args .at + l) (sym names-length), all-written (s .args .out .now) (s .args .at) (l .k) (omega (arith, l .inv .0, c .loop-test .left)) (l .inv .2))
 
 pub write-names-spec : {M : Type 1} → statement M
 write-names-spec =

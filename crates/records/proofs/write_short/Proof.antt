@@ -3,6 +3,7 @@ use native.Mathlib.Omega.{arith}
 use mathlib.Core.Path.{_∙_}
 use lib.ListN.{length-set}
 use borrow.Author.Needs.{needs}
+use Rattle.records.proofs.Lengths.{short-length}
 use Rattle.records.proofs.Written.{short-written}
 use Rattle.records.proofs.write_short.Statement.{statement}
 use Rattle.records.proofs.write_short.Tie as tie
@@ -37,7 +38,7 @@ returns c =
     let p = v .before .before .before .before in
     let s = p .before .before .before .before in
     let a = s .args in (
-      omega (arith, v .append .ensures .0),
+      omega (arith, v .append .ensures .0, short-length (record { name = a .name; value = a .value .now })),
       short-written (a .out .now) (a .value .now) (a .at) (a .name) (s .pre .0) (p .put16 .kept .0)
           (p .put16 .ensures) (v .append .ensures .1),
     )

@@ -46,7 +46,7 @@ same-length c = search needs
 returns-2 : tie.Need-returns-2
 returns-2 c =
     let p = c .before .before .write-names .ensures in
-    left-last (headed (c .before .before .before .before .before .before)) (omega (arith, p .0, names-length), p .1)
+    left-last (headed (c .before .before .before .before .before .before)) p
 
 pub write-capabilities-spec : {M : Type 1} → statement M
 write-capabilities-spec =

@@ -3,9 +3,9 @@ use native.Mathlib.Omega.{arith}
 use mathlib.Core.List.{[]}
 use borrow.Author.Needs.{needs}
 use Rattle.meaning.specs.Calls.{expiry}
+use Rattle.meaning.proofs.Refused.{expiry-room}
 use Rattle.endpoint.proofs.Told.{found}
 use Rattle.text.proofs.Answered.{answer-short, answered}
-use Rattle.rig.proofs.Alone.{expiry-alone}
 use Rattle.rig.proofs.expiry.Statement.{statement}
 use Rattle.rig.proofs.expiry.Tie as tie
 
@@ -19,7 +19,7 @@ write-outcome-requires : tie.Need-write-outcome-requires
 write-outcome-requires c κs =
     let m = c .before .before .before .before .expiry in
     let s = c .before .before .before .before .before .before .before .before in
-    let w = found (expiry (s .args .memory .now)) [] (expiry-alone (s .args .memory .now)) (m .ensures) in
+    let w = found (expiry (s .args .memory .now)) [] (expiry-room (s .args .memory .now)) (m .ensures) in
     (w .0, omega (arith, s .pre))
 
 same-length : tie.Need-same-length
@@ -33,7 +33,7 @@ returns c =
     let p = c .before .before .write-outcome .ensures in
     let m = c .before .before .before .before .before .before .before .expiry in
     let s = c .before .before .before .before .before .before .before .before .before .before .before in
-    let w = found (expiry (s .args .memory .now)) [] (expiry-alone (s .args .memory .now)) (m .ensures) in
+    let w = found (expiry (s .args .memory .now)) [] (expiry-room (s .args .memory .now)) (m .ensures) in
     (omega (arith, p .0, answer-short (m .result) [] (w .0)), answered (expiry (s .args .memory .now)) (s .args .out .now) (s .args .at) (m .ensures) (w .1) p)
 
 pub expiry-spec : {M : Type 1} → statement M

@@ -5,7 +5,7 @@ use mathlib.Core.Path.{_≡_, sym, ap, ap₂, _∙_}
 use mathlib.Core.List.{List}
 use lib.ListN.{length}
 use borrow.Author.Needs.{needs}
-use Rattle.meaning.specs.Octets.{part, splice}
+use Rattle.meaning.specs.Octets.{part}
 use Rattle.meaning.specs.Reply.{heldOctets, shortOctets, failedOctets}
 use Rattle.meaning.specs.Step.{shown}
 use Rattle.meaning.proofs.Lists.{length-part}
@@ -229,8 +229,7 @@ returns-7 : tie.Need-returns-7
 returns-7 c =
     let a = c .before .before .before .before .before .before .before .before .before .before .before .before .before .before .before .args in
     let k = c .before .before .before .before .before in
-    let p = c .before .before .write-failed .ensures in
-    wrote-this (a .out .now) (a .at) (failed k) (p .0 ∙ ap (λ (n : ℕ). a .at + n) (sym (failed-length (record { name = name (k .before .before .before .before); cause = k .a2 .given .0 .0 }))), p .1)
+    wrote-this (a .out .now) (a .at) (failed k) (c .before .before .write-failed .ensures)
 
 returns-8 : tie.Need-returns-8
 returns-8 c =
@@ -245,12 +244,8 @@ returns-9 c =
     let a = c .before .before .before .before .before .before .before .before .before .before .before .before .before .before .before .before .args in
     let k = c .before .before .before .before .before in
     let z = k .before .before .before .before .before in
-    let p = c .before .before .write-short .ensures in
     let e = part-is (a .list .now) (from z) (size z) in
-    wrote-this (a .out .now) (a .at) (short k) (
-      p .0 ∙ ap (λ (w : List ℕ). a .at + (3 + length w)) e ∙ ap (λ (l : ℕ). a .at + l) (sym (short-length (record { name = name z; value = sent z }))),
-      p .1 ∙ ap (λ (w : List ℕ). splice (a .out .now) (a .at) (shortOctets (record { name = name z; value = w }))) e,
-    )
+    wrote-this (a .out .now) (a .at) (short k ∙ ap (λ (w : List ℕ). shortOctets (record { name = name z; value = w })) (sym e)) (c .before .before .write-short .ensures)
 
 same-length-4 : tie.Need-same-length-4
 same-length-4 c = search needs
@@ -259,8 +254,7 @@ returns-10 : tie.Need-returns-10
 returns-10 c =
     let a = c .before .before .before .before .before .before .before .before .before .before .before .before .before .before .before .args in
     let k = c .before .before .before .before .before in
-    let p = c .before .before .write-failed2 .ensures in
-    wrote-this (a .out .now) (a .at) (failed-set k) (p .0 ∙ ap (λ (n : ℕ). a .at + n) (sym (failed-length (record { name = name (k .before .before .before .before); cause = k .a3 .given .0 .0 }))), p .1)
+    wrote-this (a .out .now) (a .at) (failed-set k) (c .before .before .write-failed2 .ensures)
 
 returns-11 : tie.Need-returns-11
 returns-11 c =
@@ -275,12 +269,8 @@ returns-12 c =
     let a = c .before .before .before .before .before .before .before .before .before .before .before .before .before .before .before .before .args in
     let k = c .before .before .before .before .before in
     let z = k .before .before .before .before .before in
-    let p = c .before .before .write-held .ensures in
     let e = part-is (a .list .now) (from z) (size z) in
-    wrote-this (a .out .now) (a .at) (long-held k) (
-      p .0 ∙ ap (λ (w : List ℕ). a .at + (4 + length w)) e ∙ ap (λ (l : ℕ). a .at + l) (sym (held-length (record { name = name z; value = sent z }))),
-      p .1 ∙ ap (λ (w : List ℕ). splice (a .out .now) (a .at) (heldOctets (record { name = name z; value = w }))) e,
-    )
+    wrote-this (a .out .now) (a .at) (long-held k ∙ ap (λ (w : List ℕ). heldOctets (record { name = name z; value = w })) (sym e)) (c .before .before .write-held .ensures)
 
 pub spell-spec : {M : Type 1} → statement M
 spell-spec =

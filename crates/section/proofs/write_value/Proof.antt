@@ -1,15 +1,15 @@
 -- `section::write_value` meets its contract.
-use Prim.Native.Nat.{ℕ, _+_}
+use Prim.Native.Nat.{ℕ}
 use native.Mathlib.Omega.{arith}
 use mathlib.Core.Path.{_≡_, sym, ap, _∙_}
 use mathlib.Core.List.{List}
 use lib.ListN.{length}
 use borrow.Author.Needs.{needs}
-use Rattle.meaning.specs.Octets.{splice}
 use Rattle.meaning.specs.Block.{sums}
 use Rattle.meaning.specs.Step.{shown}
 use Rattle.meaning.specs.Reply.{heldOctets}
 use Rattle.records.proofs.Lengths.{held-length}
+use Rattle.records.proofs.Pieces.{wrote-this}
 use Rattle.command.proofs.Shown.{shown-value, shown-short, shown-sums}
 use Rattle.section.proofs.write_value.Statement.{statement}
 use Rattle.section.proofs.write_value.Tie as tie
@@ -38,7 +38,7 @@ returns c =
     let k = c .before .before .before .before in
     let e : k .before .body .result .now ≡ shown (a .m .now) (a .k) = k .before .body .ensures ∙ sym (shown-value (a .m .now) (a .k) (k .if1 .taken)) in
     let p = c .before .before .write-held .ensures in
-    (p .0 ∙ ap (λ (v : List ℕ). a .at + (4 + length v)) e ∙ ap (λ (n : ℕ). a .at + n) (sym (held-length (record { name = a .name; value = shown (a .m .now) (a .k) }))), p .1 ∙ ap (λ (v : List ℕ). splice (a .out .now) (a .at) (heldOctets (record { name = a .name; value = v }))) e)
+    wrote-this (a .out .now) (a .at) (ap (λ (v : List ℕ). heldOctets (record { name = a .name; value = v })) (sym e)) p
 
 slice-aggregate-write-sums : tie.Need-slice-aggregate-write-sums
 slice-aggregate-write-sums c = search needs
@@ -63,7 +63,7 @@ returns-2 c =
     let a = c .before .before .before .before .before .before .before .before .before .before .before .before .args in
     let e = sums-shown (c .before .before .before .before .before .before) in
     let p = c .before .before .write-held2 .ensures in
-    (p .0 ∙ ap (λ (v : List ℕ). a .at + (4 + length v)) e ∙ ap (λ (n : ℕ). a .at + n) (sym (held-length (record { name = a .name; value = shown (a .m .now) (a .k) }))), p .1 ∙ ap (λ (v : List ℕ). splice (a .out .now) (a .at) (heldOctets (record { name = a .name; value = v }))) e)
+    wrote-this (a .out .now) (a .at) (ap (λ (v : List ℕ). heldOctets (record { name = a .name; value = v })) (sym e)) p
 
 pub write-value-spec : {M : Type 1} → statement M
 write-value-spec =
