@@ -12,7 +12,7 @@ use borrow.Author.Tests.{le-leb, lt-leb, eq-eqb}
 use Rattle.meaning.specs.Octets.{nonempty, octet, at16, part, implies, every}
 use Rattle.meaning.specs.Checks.{firstFailed, settle}
 use Rattle.meaning.specs.Table.{place, entryCount, memoryLength}
-use Rattle.meaning.specs.Memory.{waiting, setClock, sound, fresh}
+use Rattle.meaning.specs.Memory.{waiting, expiries, setClock, sound, fresh}
 use Rattle.meaning.specs.Operation.{Op, parse, isSome, orNone}
 use Rattle.meaning.specs.Step.{after}
 use Rattle.meaning.specs.Reply.{complete}
@@ -96,6 +96,10 @@ local-does m n k v e s p = rw (e, s, p)
 pub fresh-does : (m : List ℕ) → length m ≡ memoryLength → makeFresh m ≡ told 0 fresh []
 unfolding makeFresh call firstFailed settle
 fresh-does m h = rw (eq-eqb (length m) memoryLength h)
+
+-- one expiry more, with the count as the memory says it
+pub counted-on : (m : List ℕ) {n : ℕ} {m′ : List ℕ} → n ≡ expiries m → m′ ≡ setClock m 1 (n + 1) → m′ ≡ setClock m 1 (expiries m + 1)
+counted-on m e f = f ∙ ap (λ (k : ℕ). setClock m 1 (k + 1)) e
 
 module _ (m room : List ℕ) (s : sound m ≡ true) (h : 1600 ≤ length room) (w : waiting m ≡ false) where
   pub build-nothing : nonempty (reports m entryCount) ≡ false → build m room ≡ told 9 m room

@@ -45,13 +45,28 @@ failed-weight : (n c : ℕ) → weight (gathered (readError n c ∷ [])) ≡ 3
 unfolding weight gathered recordOf flat failedOctets be16
 failed-weight n c = refl
 
-report-weight : (m : List ℕ) (k : ℕ) → weight (gathered (report m k ∷ [])) ≤ 4 + rowAt k .most
+-- a name is reported with its value; an absent one is an error with cause 03
+pub report-value : (m : List ℕ) (k : ℕ) → present m k ≡ true → report m k ≡ value (rowAt k .name) (body m k)
 unfolding report
-report-weight m k = go (present m k)
+report-value m k e = rw e
+
+pub report-absent : (m : List ℕ) (k : ℕ) → present m k ≡ false → report m k ≡ readError (rowAt k .name) 0x03
+unfolding report
+report-absent m k e = rw e
+
+-- what holds of both holds of a report
+report-either : (P : Answer → Type 0) (m : List ℕ) (k : ℕ) → P (value (rowAt k .name) (body m k)) → P (readError (rowAt k .name) 0x03) → P (report m k)
+report-either P m k f g = go (present m k) refl
   where
-    go : (b : Bool) → weight (gathered (cond b (value (rowAt k .name) (body m k)) (readError (rowAt k .name) 0x03) ∷ [])) ≤ 4 + rowAt k .most
-    go true = omega (arith, held-weight (rowAt k .name) (body m k), body-length m k)
-    go false = omega (arith, failed-weight (rowAt k .name) 0x03)
+    go : (b : Bool) → present m k ≡ b → P (report m k)
+    go true e = rw (report-value m k e) f
+    go false e = rw (report-absent m k e) g
+
+report-weight : (m : List ℕ) (k : ℕ) → weight (gathered (report m k ∷ [])) ≤ 4 + rowAt k .most
+report-weight m k =
+    report-either (λ a. weight (gathered (a ∷ [])) ≤ 4 + rowAt k .most) m k
+    (omega (arith, held-weight (rowAt k .name) (body m k), body-length m k))
+    (omega (arith, failed-weight (rowAt k .name) 0x03))
 
 -- only names set by the port are pending
 pending-port : (m : List ℕ) (k : ℕ) → Sound m → k < entryCount → pending m k ≡ true → byPort (rowAt k .owner) ≡ true
@@ -112,20 +127,17 @@ report-joined r s f g =
     }
 
 report-one : (m : List ℕ) (k : ℕ) → k < entryCount → Report (recordOf (report m k))
-unfolding report recordOf
-report-one m k hk = go (present m k)
-  where
-    go : (b : Bool) → Report (recordOf (cond b (value (rowAt k .name) (body m k)) (readError (rowAt k .name) 0x03)))
-    go true =
-        record {
-          good = good-record (value (rowAt k .name) (body m k)) (name-small k hk, omega (arith, body-length m k, most-small k hk));
-          noNames = refl;
-          noUpdates = refl;
-          noUpdateErrors = refl;
-          noLongUpdates = refl;
-        }
-    go false =
-        record { good = good-record (readError (rowAt k .name) 0x03) (name-small k hk); noNames = refl; noUpdates = refl; noUpdateErrors = refl; noLongUpdates = refl }
+unfolding recordOf
+report-one m k hk =
+    report-either (λ a. Report (recordOf a)) m k
+    (record {
+      good = good-record (value (rowAt k .name) (body m k)) (name-small k hk, omega (arith, body-length m k, most-small k hk));
+      noNames = refl;
+      noUpdates = refl;
+      noUpdateErrors = refl;
+      noLongUpdates = refl;
+    })
+    (record { good = good-record (readError (rowAt k .name) 0x03) (name-small k hk); noNames = refl; noUpdates = refl; noUpdateErrors = refl; noLongUpdates = refl })
 
 reports-are : (m : List ℕ) (k : ℕ) → k ≤ entryCount → Report (gathered (reports m k))
 unfolding reports gathered

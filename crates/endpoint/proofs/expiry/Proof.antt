@@ -1,7 +1,7 @@
 -- `endpoint::expiry` meets its contract.
-use Prim.Native.Nat.{ℕ, _+_}
+use Prim.Native.Nat.{_+_}
 use native.Mathlib.Omega.{arith}
-use mathlib.Core.Path.{_≡_, refl, sym, ap, _∙_}
+use mathlib.Core.Path.{_≡_, refl, sym, _∙_}
 use mathlib.Core.Bool.{true}
 use mathlib.Core.List.{[]}
 use borrow.Author.Needs.{needs}
@@ -12,7 +12,7 @@ use Rattle.meaning.proofs.Numbers.{expiry-1, expiry-8}
 use Rattle.meaning.proofs.Timer.{expiry-again, expiry-given-up}
 use Rattle.endpoint.specs.Outcomes.{numberOf, lengthOf}
 use Rattle.endpoint.specs.declared.Outcome.the-variants.{MemoryUnsound, Idle, SendAgain, GivenUp}
-use Rattle.endpoint.proofs.Exits.{gives-told, gives-left}
+use Rattle.endpoint.proofs.Exits.{gives-told, gives-left, counted-on}
 use Rattle.endpoint.proofs.expiry.Statement.{statement}
 use Rattle.endpoint.proofs.expiry.Tie as tie
 
@@ -66,7 +66,7 @@ returns-3 c =
     let k = t .before .before .before in
     let m = k .before .before .before .before .before .before .before .args .memory .now in
     gives-left (setClock m 1 (expiries m + 1)) 20 SendAgain (expiry-again m (tested (k .before .before .before)) (waits k) (omega (arith, e, t .if3 .taken))) refl refl
-    (c .before .before .set-clock .ensures ∙ ap (λ (n : ℕ). setClock m 1 (n + 1)) e)
+    (counted-on m e (c .before .before .set-clock .ensures))
 
 set-clock-requires-2 : tie.Need-set-clock-requires-2
 set-clock-requires-2 c κs = opened _ (tested (c .before .before .before .before .before .before .before)) .long

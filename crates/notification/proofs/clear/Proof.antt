@@ -19,8 +19,8 @@ abbrev μ-loop : tie.MeasureT-loop
 μ-loop m₀ k₀ m k = 19 - k
 
 -- what a turn leaves, with the subscription as the memory says it
-marked : (m : List ℕ) (k : ℕ) {s : Bool} → s ≡ subscribed m k → remark m k s false ≡ remark m k (subscribed m k) false
-marked m k e = ap (λ (b : Bool). remark m k b false) e
+marked : (m : List ℕ) (k : ℕ) {s : Bool} {m′ : List ℕ} → s ≡ subscribed m k → m′ ≡ remark m k s false → m′ ≡ remark m k (subscribed m k) false
+marked m k e f = f ∙ ap (λ (b : Bool). remark m k b false) e
 
 loop-holds : tie.Need-loop-holds Inv-loop μ-loop
 unfolding cleared
@@ -43,7 +43,7 @@ unfolding cleared
 loop-again c =
     let p = c .before .before .remark in
     let l = c .before .before .before .before .before .before .before .loop in
-    (search needs, p .kept .0 ∙ l .inv .1, p .kept .0 ∙ l .inv .2, p .ensures ∙ marked (l .m) (l .k) (c .before .before .before .before .subscribed .ensures) ∙ rw (add-one, l .inv .3))
+    (search needs, p .kept .0 ∙ l .inv .1, p .kept .0 ∙ l .inv .2, marked (l .m) (l .k) (c .before .before .before .before .subscribed .ensures) (p .ensures) ∙ rw (add-one, l .inv .3))
 
 same-length : tie.Need-same-length Inv-loop μ-loop
 same-length c = search needs
