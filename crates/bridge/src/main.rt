@@ -73,7 +73,11 @@ fn run(memory: &mut [u8], block: &mut [u8], room: &mut [u8], out: &mut [u8])
         turns -= 1;
         let got = input::read_on(block, left);
         if got == 0 {
-            return input::finish(left);
+            if left > 0 {
+                let end = text::write_cut(out, 0);
+                io::write_all(STDOUT_FILENO, &out[..end]);
+            }
+            return;
         }
         let to = left + got;
         let Served::Rest(from) = serve(memory, &block[..to], room, out) else {

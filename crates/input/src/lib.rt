@@ -1,7 +1,6 @@
 // Input in pieces that tell their own length: a head whose last two octets are the length of the body after it. Input is
 // read in large blocks; what is left of a piece moves to the front before more is read after it.
 use libc::STDIN_FILENO;
-use libc::STDOUT_FILENO;
 ghost use Prim.Native.Nat.{_+_, _-_, _≤_};
 ghost use mathlib.Core.Path.{_≡_};
 ghost use lib.ListN.{length, take};
@@ -52,16 +51,4 @@ pub fn to_front(block: &mut [u8], from: usize, to: usize) -> usize
         i += 1;
     }
     n
-}
-
-// The word for a piece that cannot be taken.
-pub fn cut() {
-    io::write_all(STDOUT_FILENO, b"cut\n");
-}
-
-// Says whether the input ended within a piece.
-pub fn finish(left: usize) {
-    if left > 0 {
-        cut();
-    }
 }

@@ -252,9 +252,8 @@ fn serve(memory: &mut [u8], room: &mut [u8], lent: Lent, held: &[u8], out: &mut 
             out,
             at,
         ) else {
-            if io::write_all(STDOUT_FILENO, &out[..at]) {
-                input::cut();
-            }
+            let end = text::write_cut(out, at);
+            io::write_all(STDOUT_FILENO, &out[..end]);
             return Served::Over;
         };
         lends = left;
@@ -284,7 +283,11 @@ fn run(memory: &mut [u8], block: &mut [u8], room: &mut [u8], out: &mut [u8])
         turns -= 1;
         let got = input::read_on(block, left);
         if got == 0 {
-            return input::finish(left);
+            if left > 0 {
+                let end = text::write_cut(out, 0);
+                io::write_all(STDOUT_FILENO, &out[..end]);
+            }
+            return;
         }
         let to = left + got;
         let Served::Rest(from, lends) = serve(memory, room, lent, &block[..to], out) else {

@@ -5,7 +5,7 @@ ghost use mathlib.Core.Path.{_≡_};
 ghost use lib.ListN.{length};
 ghost use Rattle.octets.specs.Writing.{Wrote};
 ghost use Rattle.endpoint.specs.Outcomes.{lengthOf};
-ghost use Rattle.text.specs.Lines.{digit as Lines·digit, hex, decimal, shownOctets, octetsLine, line, longDecimal, lentLine};
+ghost use Rattle.text.specs.Lines.{digit as Lines·digit, hex, decimal, shownOctets, octetsLine, line, longDecimal, lentLine, cutLine};
 ghost use Rattle.text.specs.Answers.{answerLine};
 
 // The character of a digit: 39 more for a letter, taken from all bits of an octet or from none. With a quotient by 10 or a
@@ -112,4 +112,13 @@ pub fn write_lent(out: &mut [u8], at: usize, lent: usize) -> usize
     let end = write_long_decimal(out, number, lent);
     out[end] = b'\n';
     end + 1
+}
+
+// The line of a piece of input that is not whole, or not one that can be taken.
+pub fn write_cut(out: &mut [u8], at: usize) -> usize
+    requires { ⌜ at + 4 ≤ length (now out) ⌝ }
+    ensures { λ r. ⌜ r ≡ at + 4 ⌝ }
+    ensures { λ r. ⌜ Wrote (now (out .entry)) at cutLine r (now (out .exit)) ⌝ }
+{
+    octets::append(out, at, b"cut\n")
 }

@@ -117,20 +117,19 @@ enum-known-next c = search needs
 enum-told-2 : tie.Need-enum-told-2 Inv-loop μ-loop
 enum-told-2 c = search needs
 
+write-cut-requires : tie.Need-write-cut-requires Inv-loop μ-loop
+write-cut-requires c κs = search needs
+
 slice-reshare-prefix-write-all-2 : tie.Need-slice-reshare-prefix-write-all-2 Inv-loop μ-loop
 slice-reshare-prefix-write-all-2 c = search needs
 
 slice-aggregate-write-all-2 : tie.Need-slice-aggregate-write-all-2 Inv-loop μ-loop
 slice-aggregate-write-all-2 c =
-    let a = c .before .before .before .before .before .before .before .before .before .take-record in
-    let l = c .before .before .before .before .before .before .before .before .before .before .before .before .before .before .before .before .before .before .before .loop in
-    sym (length-take-le (l .at) (a .last .1 .1 .1 .1 .1 .0) (omega (arith, a .kept .1 .1 .1 .1 .1 .0, l .inv .2, l .inv .4, c .before .before .before .before .before .before .before .before .before .before .before .before .before .before .before .before .before .before .before .before .before .before .before .before .pre .3)))
+    let w = c .before .before .before .write-cut in
+    sym (length-take-le (w .result) (w .last .0) (omega (arith, w .kept .0)))
 
 write-all-requires-2 : tie.Need-write-all-requires-2 Inv-loop μ-loop
 write-all-requires-2 c κs = search needs
-
-cut-requires : tie.Need-cut-requires Inv-loop μ-loop
-cut-requires c κs = search needs
 
 same-length-7 : tie.Need-same-length-7 Inv-loop μ-loop
 same-length-7 c = search needs
@@ -144,6 +143,15 @@ same-length-9 c = search needs
 returns-3 : tie.Need-returns-3 Inv-loop μ-loop
 returns-3 c = search needs
 
+slice-reshare-prefix-write-all-3 : tie.Need-slice-reshare-prefix-write-all-3 Inv-loop μ-loop
+slice-reshare-prefix-write-all-3 c = fits (c .before)
+
+slice-aggregate-write-all-3 : tie.Need-slice-aggregate-write-all-3 Inv-loop μ-loop
+slice-aggregate-write-all-3 c = sym (length-take-le _ (c .before .before .before .before .before .before .before .before .before .before .before .take-record .last .1 .1 .1 .1 .1 .0) (fits (c .before .before)))
+
+write-all-requires-3 : tie.Need-write-all-requires-3 Inv-loop μ-loop
+write-all-requires-3 c κs = search needs
+
 same-length-10 : tie.Need-same-length-10 Inv-loop μ-loop
 same-length-10 c = search needs
 
@@ -155,27 +163,6 @@ same-length-12 c = search needs
 
 returns-4 : tie.Need-returns-4 Inv-loop μ-loop
 returns-4 c = search needs
-
-slice-reshare-prefix-write-all-3 : tie.Need-slice-reshare-prefix-write-all-3 Inv-loop μ-loop
-slice-reshare-prefix-write-all-3 c = fits (c .before)
-
-slice-aggregate-write-all-3 : tie.Need-slice-aggregate-write-all-3 Inv-loop μ-loop
-slice-aggregate-write-all-3 c = sym (length-take-le _ (c .before .before .before .before .before .before .before .before .before .before .before .take-record .last .1 .1 .1 .1 .1 .0) (fits (c .before .before)))
-
-write-all-requires-3 : tie.Need-write-all-requires-3 Inv-loop μ-loop
-write-all-requires-3 c κs = search needs
-
-same-length-13 : tie.Need-same-length-13 Inv-loop μ-loop
-same-length-13 c = search needs
-
-same-length-14 : tie.Need-same-length-14 Inv-loop μ-loop
-same-length-14 c = search needs
-
-same-length-15 : tie.Need-same-length-15 Inv-loop μ-loop
-same-length-15 c = search needs
-
-returns-5 : tie.Need-returns-5 Inv-loop μ-loop
-returns-5 c = search needs
 
 loop-less : tie.Need-loop-less Inv-loop μ-loop
 loop-less c =
@@ -238,25 +225,21 @@ serve-spec =
     take-record-requires
     enum-known-next
     enum-told-2
+    write-cut-requires
     slice-reshare-prefix-write-all-2
     slice-aggregate-write-all-2
     write-all-requires-2
-    cut-requires
     same-length-7
     same-length-8
     same-length-9
     returns-3
+    slice-reshare-prefix-write-all-3
+    slice-aggregate-write-all-3
+    write-all-requires-3
     same-length-10
     same-length-11
     same-length-12
     returns-4
-    slice-reshare-prefix-write-all-3
-    slice-aggregate-write-all-3
-    write-all-requires-3
-    same-length-13
-    same-length-14
-    same-length-15
-    returns-5
     loop-less
     loop-again
     loop-less-2
