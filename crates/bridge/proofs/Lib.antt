@@ -1,2 +1,2 @@
--- Laws of what the program holds.
-pub mod Held
+-- Laws of what the program holds and answers.
+pub mod Frames

@@ -7,7 +7,7 @@ ghost use mathlib.Core.Path.{_≡_};
 ghost use lib.ListN.{length};
 ghost use Rattle.meaning.specs.Calls.{message};
 ghost use Rattle.text.specs.Answers.{Answers};
-ghost use Rattle.bridge.specs.Frames.{Left};
+ghost use Rattle.bridge.specs.Frames.{Answers as AnswersFrames, Serves};
 
 // Octets of a frame's length.
 const HEAD: usize = 2;
@@ -19,6 +19,12 @@ const DUE: usize = 65536;
 const ROOM: usize = 4096;
 // Octets that the line of a full room may take.
 const LINE: usize = 8197;
+
+// How far the frames that are held are answered: the place of the next frame, and the place after the lines.
+struct Batch {
+    from: usize,
+    at: usize,
+}
 
 // What became of the frames that are held: the place from which more input is wanted, or that output cannot be written.
 enum Served {
@@ -36,28 +42,44 @@ fn answer(memory: &mut [u8], sent: &[u8], room: &mut [u8], out: &mut [u8], at: u
     text::write_outcome(out, at, outcome, room)
 }
 
-// Answers each whole frame that is held. Lines are written out when enough are due, and all of them at the end, so that
-// a peer which waits for them has them before the next read.
+// Answers whole frames from a place on, until none is left or lines are due.
+fn answer_frames(
+    memory: &mut [u8],
+    held: &[u8],
+    from: usize,
+    room: &mut [u8],
+    out: &mut [u8],
+) -> Batch
+    requires { ⌜ (from ≤ length (now held)) × (length (now room) ≡ 4096) × (length (now out) ≡ 73733) ⌝ }
+    ensures { λ r. ⌜ AnswersFrames (now (held .entry)) (record { memory = now (memory .entry); room = now (room .entry); from = from }) r (now (memory .exit)) (now (room .exit)) (now (out .exit)) ⌝ }
+{
+    let mut next = from;
+    let mut at = 0;
+    while at < DUE {
+        let Next::Whole(end) = input::next_piece(held, next, HEAD) else {
+            return Batch { from: next, at };
+        };
+        at = answer(memory, &held[next + HEAD..end], room, out, at);
+        next = end;
+    }
+    Batch { from: next, at }
+}
+
+// Answers every whole frame that is held. All lines are written out at the end, so that a peer which waits for them has
+// them before the next read.
 fn serve(memory: &mut [u8], held: &[u8], room: &mut [u8], out: &mut [u8]) -> Served
     requires { ⌜ (length (now room) ≡ 4096) × (length (now out) ≡ 73733) ⌝ }
-    ensures { λ r. ⌜ Left (length (now (held .entry))) r ⌝ }
+    ensures { λ r. ⌜ Serves (now (held .entry)) (record { memory = now (memory .entry); room = now (room .entry); from = 0 }) r (now (memory .exit)) (now (room .exit)) ⌝ }
 {
     let mut from = 0;
-    let mut at = 0;
     loop {
-        let Next::Whole(end) = input::next_piece(held, from, HEAD) else {
-            if io::write_all(STDOUT_FILENO, &out[..at]) {
-                return Served::Rest(from);
-            }
+        let batch = answer_frames(memory, held, from, room, out);
+        if !io::write_all(STDOUT_FILENO, &out[..batch.at]) {
             return Served::Closed;
-        };
-        at = answer(memory, &held[from + HEAD..end], room, out, at);
-        from = end;
-        if at >= DUE {
-            if !io::write_all(STDOUT_FILENO, &out[..at]) {
-                return Served::Closed;
-            }
-            at = 0;
+        }
+        from = batch.from;
+        if batch.at < DUE {
+            return Served::Rest(from);
         }
     }
 }

@@ -3,8 +3,10 @@ use Prim.Native.Nat.{ℕ, _+_, _-_, _≤_, _<_}
 use native.Mathlib.Numerals.{add-one}
 use native.Mathlib.Omega.{arith}
 use mathlib.Core.Path.{_≡_, sym, ap, _∙_}
+use mathlib.Core.Bool.{Bool, true, false, cond}
 use mathlib.Core.List.{List}
 use lib.ListN.{length, getD, take, drop, set, length-drop}
+use lib.Dec.{leb}
 use lib.Seq.{take-suc, take-suc-set, drop-set-lt, drop-drop, getD-drop}
 use borrow.Author.Tests.{le-leb, lt-leb}
 use Rattle.meaning.specs.Octets.{at16, part}
@@ -21,6 +23,14 @@ needed-head s from head h = rw (lt-leb (from + head) (length s) h)
 pub needed-all : (s : List ℕ) (from head : ℕ) → from + head ≤ length s → needed s from head ≡ head + at16 s (from + head - 2)
 unfolding needed
 needed-all s from head h = rw (le-leb (from + head) (length s) h)
+
+pub needed-least : (s : List ℕ) (from head : ℕ) → head ≤ needed s from head
+unfolding needed
+needed-least s from head = go (leb (from + head) (length s))
+  where
+    go : (b : Bool) → head ≤ cond b (head + at16 s (from + head - 2)) head
+    go true = omega arith
+    go false = omega arith
 
 -- what is known where a piece is whole, and where more is wanted
 pub whole : (s : List ℕ) (from head : ℕ) {end : ℕ} {r : Next} → r ≡ Whole end → Found s from head r → (from + head ≤ end) × (end ≤ length s)

@@ -5,7 +5,7 @@ use mathlib.Core.Path.{_≡_, sym}
 use lib.ListN.{length, take}
 use lib.Seq.{length-take-le}
 use borrow.Author.Needs.{needs}
-use Rattle.bridge.proofs.Held.{rest}
+use Rattle.bridge.proofs.Frames.{rest}
 use Rattle.bridge.proofs.run.Statement.{statement}
 use Rattle.bridge.proofs.run.Tie as tie
 
@@ -113,7 +113,7 @@ to-front-requires c κs =
     let r = a .before .before .before .before .before in
     let l = r .before .before .before in
     let e = slice-aggregate-serve a in
-    let f = rest (length (take (l .loop .left + r .read-on .result) (r .read-on .last .0))) (k .before .from .given .1) (s .serve .ensures) in
+    let f = rest (take (l .loop .left + r .read-on .result) (r .read-on .last .0)) _ _ _ (k .before .from .given .1) (s .serve .ensures) in
     omega arith
 
 loop-less : tie.Need-loop-less Inv-loop μ-loop
@@ -127,7 +127,7 @@ loop-again c =
     let r = a .before .before .before .before .before in
     let l = r .before .before .before in
     let e = slice-aggregate-serve a in
-    let f = rest (length (take (l .loop .left + r .read-on .result) (r .read-on .last .0))) (k .before .from .given .1) (s .serve .ensures) in
+    let f = rest (take (l .loop .left + r .read-on .result) (r .read-on .last .0)) _ _ _ (k .before .from .given .1) (s .serve .ensures) in
     (search needs, search needs, search needs, search needs, omega arith)
 
 same-length-13 : tie.Need-same-length-13 Inv-loop μ-loop
