@@ -15,8 +15,7 @@ use Rattle.meaning.specs.Operation as operation
 use Rattle.operation.specs.declared.Op.{Op}
 use Rattle.operation.specs.declared.Op.the-variants.{Capabilities, Read, Set, Subscribe, Unsubscribe}
 use Rattle.operation.specs.declared.Handed.the-variants.{Operation, Malformed, End}
-use Rattle.operation.specs.Handing.{opOf, found, first, handing, Inside}
-use Rattle.operation.proofs.Turns.{HandsOut}
+use Rattle.operation.specs.Handing.{opOf, found, first, handing, Inside, HandsOut}
 
 -- with fewer than two octets after its code, every operation but get capabilities is cut short
 abbrev Cut : Shape → Type 0

@@ -5,7 +5,7 @@ use mathlib.Core.Path.{_≡_, refl, sym, ap, _∙_}
 use mathlib.Core.Bool.{true, false≢true}
 use mathlib.Core.List.{List, [], _∷_}
 use mathlib.Core.Option.{Option, none, some}
-use lib.ListN.{length, drop}
+use lib.ListN.{drop}
 use Rattle.meaning.specs.Operation.{follow, more, parse, isSome, orNone}
 use Rattle.meaning.specs.Operation as operation
 use Rattle.meaning.proofs.Encode.{parse-step, parse-nil}
@@ -13,11 +13,9 @@ use Rattle.operation.specs.declared.Op.{Op}
 use Rattle.operation.specs.declared.Op.the-variants.{Capabilities, Read, Set, Subscribe, Unsubscribe}
 use Rattle.operation.specs.declared.Handed.{Handed}
 use Rattle.operation.specs.declared.Handed.the-variants.{Operation, Malformed, End}
-use Rattle.operation.specs.Handing.{opOf, nameOf, fromOf, sizeOf, Inside, Handing, ended, found, first, handing, Reached}
-
--- what `hand_out` says of its result
-abbrev pub HandsOut : List ℕ → ℕ → Handed → Type 0
-HandsOut s at r = (handing s r ≡ first (drop at s)) × Reached (length s) at r
+use Rattle.operation.specs.Handing.{opOf, nameOf, fromOf, sizeOf, Inside, Handing, ended, found, first, handing}
+-- what a turn begins with
+pub use Rattle.operation.specs.Handing.{HandsOut}
 
 -- what is parsed where the first operation is known
 unfoldable parsed : Handing → Option (List operation.Op)

@@ -1,7 +1,8 @@
 -- The operations of the code's enum as those of `meaning`, and what a list hands out.
 use Prim.Native.Nat.{ℕ, _+_, _≤_, _<_}
+use mathlib.Core.Path.{_≡_}
 use mathlib.Core.List.{List, [], _∷_}
-use lib.ListN.{drop}
+use lib.ListN.{length, drop}
 use Rattle.meaning.specs.Octets.{part}
 use Rattle.meaning.specs.Operation.{capabilities, read, set, subscribe, unsubscribe, Next, bad, got, shape, shaped}
 use Rattle.meaning.specs.Operation as operation
@@ -67,3 +68,7 @@ abbrev pub Reached : ℕ → ℕ → Handed → Type 0
 Reached n at (Operation o next) = (at < next) × (next ≤ n) × Inside n o
 Reached n at Malformed = Unit {0}
 Reached n at End = Unit {0}
+
+-- r is what the list s hands out at a position
+abbrev pub HandsOut : List ℕ → ℕ → Handed → Type 0
+HandsOut s at r = (handing s r ≡ first (drop at s)) × Reached (length s) at r

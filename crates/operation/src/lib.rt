@@ -1,9 +1,8 @@
 // The operations of a command, handed out one after another from its list of octets, and whether a list is whole.
 // What is handed out is what `meaning` finds at the position.
 ghost use mathlib.Core.Path.{_≡_};
-ghost use lib.ListN.{length, drop};
 ghost use Rattle.meaning.specs.Operation.{parse, isSome};
-ghost use Rattle.operation.specs.Handing.{nameOf, fromOf, sizeOf, first, handing, Reached};
+ghost use Rattle.operation.specs.Handing.{nameOf, fromOf, sizeOf, HandsOut};
 
 // An operation. The value of a set lies in the list: where it starts, and its length.
 pub enum Op {
@@ -23,7 +22,7 @@ pub enum Handed {
 
 // What a list hands out at a position; the end for every position past its last octet.
 pub fn hand_out(list: &[u8], at: usize) -> Handed
-    ensures { λ r. ⌜ (handing (now (list .entry)) r ≡ first (drop at (now (list .entry)))) × Reached (length (now (list .entry))) at r ⌝ }
+    ensures { λ r. ⌜ HandsOut (now (list .entry)) at r ⌝ }
 {
     if list.len() <= at {
         return Handed::End;

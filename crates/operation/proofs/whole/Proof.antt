@@ -5,7 +5,8 @@ use mathlib.Core.Path.{_≡_, refl, sym, ap, _∙_, subst}
 use lib.ListN.{length, drop}
 use borrow.Author.Needs.{needs}
 use Rattle.meaning.specs.Operation.{parse, isSome}
-use Rattle.operation.proofs.Turns.{turn-some, turn-malformed, turn-end, HandsOut}
+use Rattle.operation.specs.Handing.{HandsOut}
+use Rattle.operation.proofs.Turns.{turn-some, turn-malformed, turn-end}
 use Rattle.operation.proofs.whole.Statement.{statement}
 use Rattle.operation.proofs.whole.Tie as tie
 
