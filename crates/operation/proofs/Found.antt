@@ -1,4 +1,4 @@
--- What a list hands out at a position: one law for each way in which `hand_out` returns.
+-- What a list hands out at a position: one law for each way in which `operation_at` returns.
 use Prim.Native.Nat.{ℕ, suc, _+_, _-_, _≤_, _<_}
 use native.Mathlib.Omega.{arith}
 use native.Mathlib.Numerals.{add-one}

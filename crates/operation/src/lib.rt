@@ -1,4 +1,4 @@
-// The operations of a command, handed out one after another from its list of octets, and whether a list is whole.
+// The operations of a command, handed out one after another from its list of octets by a reader, and whether a list is whole.
 // What is handed out is what `meaning` finds at the position.
 ghost use mathlib.Core.Path.{_≡_};
 ghost use Rattle.meaning.specs.Operation.{parse, isSome};
@@ -20,8 +20,8 @@ pub enum Handed {
     End,
 }
 
-// What a list hands out at a position; the end for every position past its last octet.
-pub fn hand_out(list: &[u8], at: usize) -> Handed
+// The operation at a position of a list; the end for every position past its last octet.
+pub fn operation_at(list: &[u8], at: usize) -> Handed
     ensures { λ r. ⌜ HandsOut (now (list .entry)) at r ⌝ }
 {
     if list.len() <= at {
@@ -55,6 +55,40 @@ pub fn hand_out(list: &[u8], at: usize) -> Handed
         _ => return Handed::Malformed,
     };
     Handed::Operation(op, at + 3)
+}
+
+// A reader: the list that is read, and the position at which it goes on.
+pub struct Reader<'a> {
+    pub list: &'a [u8],
+    pub at: usize,
+}
+
+// A reader at the start of a list.
+pub fn reader_of<'a>(list: &'a [u8]) -> Reader<'a>
+    ensures { λ r. ⌜ (r .list ≡ list .entry) × (r .at ≡ 0) ⌝ }
+{
+    Reader { list, at: 0 }
+}
+
+// What a reader hands out at its position.
+pub fn next<'a>(r: Reader<'a>) -> Handed
+    ensures { λ h. ⌜ HandsOut (now (r .entry .list)) (r .entry .at) h ⌝ }
+{
+    operation_at(r.list, r.at)
+}
+
+// The reader moved to another position.
+pub fn moved<'a>(r: Reader<'a>, at: usize) -> Reader<'a>
+    ensures { λ m. ⌜ (m .list ≡ r .entry .list) × (m .at ≡ at) ⌝ }
+{
+    Reader { list: r.list, at }
+}
+
+// What a reader of a list hands out at a position. Its parameters are plain, so whoever calls it is proved without a walk of the code.
+pub fn hand_out(list: &[u8], at: usize) -> Handed
+    ensures { λ r. ⌜ HandsOut (now (list .entry)) at r ⌝ }
+{
+    next(moved(reader_of(list), at))
 }
 
 // Whether each octet of a list belongs to a whole operation.
