@@ -1,4 +1,6 @@
--- The laws of a loop over operations, those that the proof of `operation_at` cites, and what the proofs of the reader share.
+-- The laws of a loop over operations, those that the proof of `operation_at` cites, what the proofs of the reader share, and that all is
+-- handed out.
 pub mod Turns
 pub mod Found
 pub mod Reading
+pub mod ToTheEnd
