@@ -48,7 +48,7 @@ lines held p = linesIn (length held) held p
 
 -- some frames have been answered: what is left to answer and its lines, behind the lines that were written, make up the
 -- whole. Either no whole frame is left, and less than the longest frame; or a frame was answered and lines are due.
-pub record Answers (held : List ℕ) (p : Port) (b : Batch) (memory room out : List ℕ) : Type 0 where
+pub record Batched (held : List ℕ) (p : Port) (b : Batch) (memory room out : List ℕ) : Type 0 where
   pub same : answered held (record { memory = memory; room = room; from = b .from }) ≡ answered held p
   pub joined : take (b .at) out ++ lines held (record { memory = memory; room = room; from = b .from }) ≡ lines held p
   pub all : b .at < 65536 → (wholeAt held (b .from) ≡ false) × (length held < b .from + 65537)

@@ -7,7 +7,7 @@ ghost use mathlib.Core.Path.{_≡_};
 ghost use lib.ListN.{length};
 ghost use Rattle.meaning.specs.Calls.{message};
 ghost use Rattle.text.specs.Answers.{Answers};
-ghost use Rattle.bridge.specs.Frames.{Answers as AnswersFrames, Serves};
+ghost use Rattle.bridge.specs.Frames.{Batched, Serves};
 
 // Octets of a frame's length.
 const HEAD: usize = 2;
@@ -51,7 +51,7 @@ fn answer_frames(
     out: &mut [u8],
 ) -> Batch
     requires { ⌜ (from ≤ length (now held)) × (length (now room) ≡ 4096) × (length (now out) ≡ 73733) ⌝ }
-    ensures { λ r. ⌜ AnswersFrames (now (held .entry)) (record { memory = now (memory .entry); room = now (room .entry); from = from }) r (now (memory .exit)) (now (room .exit)) (now (out .exit)) ⌝ }
+    ensures { λ r. ⌜ Batched (now (held .entry)) (record { memory = now (memory .entry); room = now (room .entry); from = from }) r (now (memory .exit)) (now (room .exit)) (now (out .exit)) ⌝ }
 {
     let mut next = from;
     let mut at = 0;
