@@ -15,7 +15,7 @@ use Rattle.input.specs.declared.Next.the-variants.{Whole, More}
 use Rattle.input.proofs.Held.{needed-least}
 use Rattle.text.specs.Answers.{lineOf}
 use Rattle.text.specs.Answers as text
-use Rattle.bridge.specs.Frames.{Port, wholeAt, outcomeAt, next, answeredIn, linesIn, answered, lines, Answers, Serves}
+use Rattle.bridge.specs.Frames.{Port, wholeAt, outcomeAt, next, answeredIn, linesIn, answered, lines, Serves}
 use Rattle.bridge.specs.declared.Served.{Served}
 use Rattle.bridge.specs.declared.Served.the-variants.{Rest}
 

@@ -1,6 +1,8 @@
 // The program of document 01: frames from standard input, one line a frame to standard output, over one memory.
 // Input is read in large blocks, and lines are written out in blocks.
+use input::Got;
 use input::Next;
+use libc::STDERR_FILENO;
 use libc::STDOUT_FILENO;
 ghost use Prim.Native.Nat.{_+_, _≤_};
 ghost use mathlib.Core.Path.{_≡_};
@@ -93,14 +95,20 @@ fn run(memory: &mut [u8], block: &mut [u8], room: &mut [u8], out: &mut [u8])
     let mut turns = u64::MAX;
     while turns > 0 {
         turns -= 1;
-        let got = input::read_on(block, left);
-        if got == 0 {
-            if left > 0 {
-                let end = text::write_cut(out, 0);
-                io::write_all(STDOUT_FILENO, &out[..end]);
+        let got = match input::read_on(block, left) {
+            Got::Octets(n) => n,
+            Got::End => {
+                if left > 0 {
+                    let end = text::write_cut(out, 0);
+                    io::write_all(STDOUT_FILENO, &out[..end]);
+                }
+                return;
             }
-            return;
-        }
+            Got::Failed => {
+                io::write_all(STDERR_FILENO, b"bridge: standard input cannot be read\n");
+                return;
+            }
+        };
         let to = left + got;
         let Served::Rest(from) = serve(memory, &block[..to], room, out) else {
             return;

@@ -2,17 +2,20 @@
 use Prim.Native.Nat.{ℕ, _+_, _-_, _≤_, _<_}
 use native.Mathlib.Numerals.{add-one}
 use native.Mathlib.Omega.{arith}
-use mathlib.Core.Path.{_≡_, sym, ap, _∙_}
+use mathlib.Core.Path.{_≡_, sym, ap, ap₂, _∙_}
 use mathlib.Core.Bool.{Bool, true, false, cond}
-use mathlib.Core.List.{List}
-use lib.ListN.{length, getD, take, drop, set, length-drop}
+use mathlib.Core.List.{List, _++_}
+use lib.ListN.{length, getD, take, drop, set, length-drop, take-append-drop}
 use lib.Dec.{leb}
 use lib.Seq.{take-suc, take-suc-set, drop-set-lt, drop-drop, getD-drop}
 use borrow.Author.Tests.{le-leb, lt-leb}
-use Rattle.meaning.specs.Octets.{at16, part}
-use Rattle.input.specs.Pieces.{needed, Found}
+use Rattle.meaning.specs.Octets.{at16, part, splice}
+use Rattle.meaning.proofs.Lists.{length-part}
+use Rattle.input.specs.Pieces.{needed, Found, Reads}
 use Rattle.input.specs.declared.Next.{Next}
 use Rattle.input.specs.declared.Next.the-variants.{Whole, More}
+use Rattle.input.specs.declared.Got.{Got}
+use Rattle.input.specs.declared.Got.the-variants.{Octets}
 
 -- ---- a piece's octets
 
@@ -43,6 +46,12 @@ more s from head e f =
     let g : Found s from head More = rw e at f in
     g .1
 
+-- what is known where a read brought octets
+pub brought : (block : List ℕ) (at : ℕ) (block′ : List ℕ) {n : ℕ} {r : Got} → r ≡ Octets n → Reads block at r block′ → (1 ≤ n) × (at + n ≤ length block)
+brought block at block′ {n} e f =
+    let g : Reads block at (Octets n) block′ = rw e at f in
+    g .1
+
 -- ---- octets moved to the front
 
 -- A turn moves one octet: those at its place and after it are still the old ones.
@@ -63,3 +72,10 @@ move-turn s₀ s from i h k e f =
       rw (add-one, take-suc-set s i x h, take-suc (drop from s₀) i 0 n, e, g),
       drop-set-lt (i + 1) s i x (omega arith) ∙ sym (drop-drop 1 i s) ∙ ap (drop 1) f ∙ drop-drop 1 i s₀,
     )
+
+-- all of them moved
+pub moved : (s₀ s : List ℕ) (from n : ℕ) → from + n ≤ length s₀ → take n s ≡ part s₀ from n → drop n s ≡ drop n s₀ → s ≡ splice s₀ 0 (part s₀ from n)
+unfolding splice
+moved s₀ s from n h e f =
+    let l : n ≡ 0 + length (part s₀ from n) = omega (arith, length-part s₀ from n h) in
+    sym (take-append-drop n s) ∙ ap₂ _++_ e (f ∙ ap (λ (k : ℕ). drop k s₀) l)

@@ -1,13 +1,15 @@
--- Pieces in the octets that were read: where the next one ends, or that more input is wanted.
+-- Pieces in the octets that were read: where the next one ends, or that more input is wanted; and what a read brings.
 use Prim.Native.Nat.{ℕ, _+_, _-_, _≤_, _<_}
 use mathlib.Core.Path.{_≡_}
 use mathlib.Core.Bool.{cond}
 use mathlib.Core.List.{List}
-use lib.ListN.{length}
+use lib.ListN.{length, take}
 use lib.Dec.{leb}
 use Rattle.meaning.specs.Octets.{at16}
 use Rattle.input.specs.declared.Next.{Next}
 use Rattle.input.specs.declared.Next.the-variants.{Whole, More}
+use Rattle.input.specs.declared.Got.{Got}
+use Rattle.input.specs.declared.Got.the-variants.{Octets, End, Failed}
 
 -- octets of the piece at a place, as far as they can be told: its head, and as many as the head's last two octets say
 unfoldable pub needed : List ℕ → ℕ → ℕ → ℕ
@@ -17,3 +19,13 @@ needed s from head = cond (leb (from + head) (length s)) (head + at16 s (from + 
 abbrev pub Found : List ℕ → ℕ → ℕ → Next → Type 0
 Found s from head (Whole end) = (end ≡ from + needed s from head) × (from + head ≤ end) × (end ≤ length s)
 Found s from head More = (length s < from + needed s from head) × (length s < from + head + 65535)
+
+-- what was read lies behind a place and within n octets
+abbrev pub Brought : ℕ → ℕ → Got → Type 0
+Brought n at (Octets k) = (1 ≤ k) × (at + k ≤ n)
+Brought n at End = Unit {0}
+Brought n at Failed = Unit {0}
+
+-- a read to a place leaves the octets before it; which octets it brings no contract can say
+abbrev pub Reads : List ℕ → ℕ → Got → List ℕ → Type 0
+Reads block at r block′ = (take at block′ ≡ take at block) × Brought (length block) at r

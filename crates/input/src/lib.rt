@@ -3,9 +3,9 @@
 use libc::STDIN_FILENO;
 ghost use Prim.Native.Nat.{_+_, _-_, _≤_};
 ghost use mathlib.Core.Path.{_≡_};
-ghost use lib.ListN.{length, take};
-ghost use Rattle.meaning.specs.Octets.{part};
-ghost use Rattle.input.specs.Pieces.{Found};
+ghost use lib.ListN.{length};
+ghost use Rattle.meaning.specs.Octets.{part, splice};
+ghost use Rattle.input.specs.Pieces.{Found, Reads};
 
 // What lies at a place of the input: a whole piece, which ends at the place told, or one of which more is to be read.
 pub enum Next {
@@ -29,20 +29,34 @@ pub fn next_piece(held: &[u8], from: usize, head: usize) -> Next
     Next::Whole(from + size)
 }
 
-// Reads once, to a place and after it: how many octets came, 0 where the input ends or cannot be read.
-pub fn read_on(block: &mut [u8], at: usize) -> usize
+// What a read brought: octets, the input's end, or nothing since it failed.
+pub enum Got {
+    Octets(usize),
+    End,
+    Failed,
+}
+
+// Reads once, to a place and after it; the octets before it stay.
+pub fn read_on(block: &mut [u8], at: usize) -> Got
     requires { ⌜ at ≤ length (now block) ⌝ }
-    ensures { λ r. ⌜ at + r ≤ length (now (block .entry)) ⌝ }
+    ensures { λ r. ⌜ Reads (now (block .entry)) at r (now (block .exit)) ⌝ }
 {
     let rest = &mut block[at..];
     let got = libc::read(STDIN_FILENO, rest);
-    io::count(got, rest)
+    if got < 0 {
+        return Got::Failed;
+    }
+    let n = io::count(got, rest);
+    if n == 0 {
+        return Got::End;
+    }
+    Got::Octets(n)
 }
 
-// Moves the octets between two places to the front; how many they are.
+// Moves the octets between two places to the front; how many they are. The octets after them stay.
 pub fn to_front(block: &mut [u8], from: usize, to: usize) -> usize
     requires { ⌜ (from ≤ to) × (to ≤ length (now block)) ⌝ }
-    ensures { λ r. ⌜ (r ≡ to - from) × (take r (now (block .exit)) ≡ part (now (block .entry)) from r) ⌝ }
+    ensures { λ r. ⌜ (r ≡ to - from) × (now (block .exit) ≡ splice (now (block .entry)) 0 (part (now (block .entry)) from r)) ⌝ }
 {
     let n = to - from;
     let mut i = 0;

@@ -1,20 +1,29 @@
 -- `bridge::run` meets its contract.
-use Prim.Native.Nat.{_+_, _<_}
+use Prim.Native.Nat.{_+_, _≤_, _<_}
 use native.Mathlib.Omega.{arith}
 use mathlib.Core.Path.{_≡_, sym}
 use lib.ListN.{length, take}
 use lib.Seq.{length-take-le}
 use borrow.Author.Needs.{needs}
+use Rattle.input.proofs.Held.{brought}
 use Rattle.bridge.proofs.Frames.{rest}
 use Rattle.bridge.proofs.run.Statement.{statement}
 use Rattle.bridge.proofs.run.Tie as tie
 
 abbrev Inv-loop : tie.InvT-loop
-Inv-loop memory₀ block₀ room₀ out₀ left₀ turns₀ memory block room out left turns =
+Inv-loop memory₀ block₀ room₀ out₀ left₀ turns₀ t12 memory block room out left turns =
     (length memory ≡ length memory₀) × (length block ≡ length block₀) × (length room ≡ length room₀) × (length out ≡ length out₀) × (left < 65537)
 
 abbrev μ-loop : tie.MeasureT-loop
-μ-loop memory₀ block₀ room₀ out₀ left₀ turns₀ memory block room out left turns = turns
+μ-loop memory₀ block₀ room₀ out₀ left₀ turns₀ t12 memory block room out left turns = turns
+
+-- the octets that a read brought
+got : (c : tie.After-known-told Inv-loop μ-loop) → (1 ≤ c .before .n .given .0 .0) × (c .before .before .before .before .before .before .before .before .loop .left + c .before .n .given .0 .0 ≤ length (c .before .before .before .before .before .before .before .before .loop .block))
+got c = brought (c .before .before .before .before .before .before .before .before .loop .block) (c .before .before .before .before .before .before .before .before .loop .left) (c .before .before .before .before .before .read-on .last .0) (c .before .n .given .1) (c .before .before .before .before .before .read-on .ensures)
+
+-- what is held after it, as `serve` has it
+held : (c : tie.After-known-told Inv-loop μ-loop) → length (take (c .before .before .before .before .before .before .before .before .loop .left + c .before .n .given .0 .0) (c .before .before .before .before .before .read-on .last .0)) ≡ c .before .before .before .before .before .before .before .before .loop .left + c .before .n .given .0 .0
+held c = length-take-le _ (c .before .before .before .before .before .read-on .last .0) (omega (arith, got c .1, c .before .before .before .before .before .read-on .kept .0))
 
 loop-holds : tie.Need-loop-holds Inv-loop μ-loop
 loop-holds c = search needs
@@ -24,6 +33,12 @@ sub-turns c = search needs
 
 read-on-requires : tie.Need-read-on-requires Inv-loop μ-loop
 read-on-requires c κs = search needs
+
+enum-known-n : tie.Need-enum-known-n Inv-loop μ-loop
+enum-known-n c = search needs
+
+enum-told : tie.Need-enum-told Inv-loop μ-loop
+enum-told c = search needs
 
 write-cut-requires : tie.Need-write-cut-requires Inv-loop μ-loop
 write-cut-requires c κs = search needs
@@ -69,26 +84,14 @@ same-length-8 c = search needs
 returns-2 : tie.Need-returns-2 Inv-loop μ-loop
 returns-2 c = search needs
 
-add-to : tie.Need-add-to Inv-loop μ-loop
-add-to c = search needs
+enum-told-2 : tie.Need-enum-told-2 Inv-loop μ-loop
+enum-told-2 c = search needs
 
-slice-reshare-prefix-serve : tie.Need-slice-reshare-prefix-serve Inv-loop μ-loop
-slice-reshare-prefix-serve c = search needs
+slice-aggregate-write-all-2 : tie.Need-slice-aggregate-write-all-2 Inv-loop μ-loop
+slice-aggregate-write-all-2 c = search needs
 
-slice-aggregate-serve : tie.Need-slice-aggregate-serve Inv-loop μ-loop
-slice-aggregate-serve c =
-    let r = c .before .before .before .before .before in
-    let l = r .before .before .before in
-    sym (length-take-le (l .loop .left + r .read-on .result) (r .read-on .last .0) (omega arith))
-
-serve-requires : tie.Need-serve-requires Inv-loop μ-loop
-serve-requires c κs = search needs
-
-enum-known-from : tie.Need-enum-known-from Inv-loop μ-loop
-enum-known-from c = search needs
-
-enum-told : tie.Need-enum-told Inv-loop μ-loop
-enum-told c = search needs
+write-all-requires-2 : tie.Need-write-all-requires-2 Inv-loop μ-loop
+write-all-requires-2 c κs = search needs
 
 same-length-9 : tie.Need-same-length-9 Inv-loop μ-loop
 same-length-9 c = search needs
@@ -105,30 +108,23 @@ same-length-12 c = search needs
 returns-3 : tie.Need-returns-3 Inv-loop μ-loop
 returns-3 c = search needs
 
-to-front-requires : tie.Need-to-front-requires Inv-loop μ-loop
-to-front-requires c κs =
-    let k = c .before in
-    let s = k .before .before .before .before .before .before .before .before .before in
-    let a = s .before .before .before in
-    let r = a .before .before .before .before .before in
-    let l = r .before .before .before in
-    let e = slice-aggregate-serve a in
-    let f = rest (take (l .loop .left + r .read-on .result) (r .read-on .last .0)) _ _ _ (k .before .from .given .1) (s .serve .ensures) in
-    omega arith
+add-to : tie.Need-add-to Inv-loop μ-loop
+add-to c = record { fits = omega (arith, got c .1) }
 
-loop-less : tie.Need-loop-less Inv-loop μ-loop
-loop-less c = search needs
+slice-reshare-prefix-serve : tie.Need-slice-reshare-prefix-serve Inv-loop μ-loop
+slice-reshare-prefix-serve c = omega (arith, got (c .before) .1)
 
-loop-again : tie.Need-loop-again Inv-loop μ-loop
-loop-again c =
-    let k = c .before .before .before .before in
-    let s = k .before .before .before .before .before .before .before .before .before in
-    let a = s .before .before .before in
-    let r = a .before .before .before .before .before in
-    let l = r .before .before .before in
-    let e = slice-aggregate-serve a in
-    let f = rest (take (l .loop .left + r .read-on .result) (r .read-on .last .0)) _ _ _ (k .before .from .given .1) (s .serve .ensures) in
-    (search needs, search needs, search needs, search needs, omega arith)
+slice-aggregate-serve : tie.Need-slice-aggregate-serve Inv-loop μ-loop
+slice-aggregate-serve c = sym (held (c .before .before))
+
+serve-requires : tie.Need-serve-requires Inv-loop μ-loop
+serve-requires c κs = search needs
+
+enum-known-from : tie.Need-enum-known-from Inv-loop μ-loop
+enum-known-from c = search needs
+
+enum-told-3 : tie.Need-enum-told-3 Inv-loop μ-loop
+enum-told-3 c = search needs
 
 same-length-13 : tie.Need-same-length-13 Inv-loop μ-loop
 same-length-13 c = search needs
@@ -145,6 +141,38 @@ same-length-16 c = search needs
 returns-4 : tie.Need-returns-4 Inv-loop μ-loop
 returns-4 c = search needs
 
+to-front-requires : tie.Need-to-front-requires Inv-loop μ-loop
+to-front-requires c κs =
+    let s = c .before .before .before .before .before .before .before .before .before .before in
+    let k = s .before .before .before .before .before in
+    let f = rest (take (k .before .before .before .before .before .before .before .before .loop .left + k .before .n .given .0 .0) (k .before .before .before .before .before .read-on .last .0)) _ _ _ (c .before .before .from .given .1) (s .serve .ensures) in
+    omega (arith, held k, got k .1, k .before .before .before .before .before .read-on .kept .0)
+
+loop-less : tie.Need-loop-less Inv-loop μ-loop
+loop-less c = search needs
+
+loop-again : tie.Need-loop-again Inv-loop μ-loop
+loop-again c =
+    let s = c .before .before .before .before .before .before .before .before .before .before .before .before .before in
+    let k = s .before .before .before .before .before in
+    let f = rest (take (k .before .before .before .before .before .before .before .before .loop .left + k .before .n .given .0 .0) (k .before .before .before .before .before .read-on .last .0)) _ _ _ (c .before .before .before .before .before .from .given .1) (s .serve .ensures) in
+    (search needs, search needs, search needs, search needs, omega (arith, held k))
+
+same-length-17 : tie.Need-same-length-17 Inv-loop μ-loop
+same-length-17 c = search needs
+
+same-length-18 : tie.Need-same-length-18 Inv-loop μ-loop
+same-length-18 c = search needs
+
+same-length-19 : tie.Need-same-length-19 Inv-loop μ-loop
+same-length-19 c = search needs
+
+same-length-20 : tie.Need-same-length-20 Inv-loop μ-loop
+same-length-20 c = search needs
+
+returns-5 : tie.Need-returns-5 Inv-loop μ-loop
+returns-5 c = search needs
+
 pub run-spec : {M : Type 1} → statement M
 run-spec =
     tie.close
@@ -154,6 +182,8 @@ run-spec =
     loop-holds
     sub-turns
     read-on-requires
+    enum-known-n
+    enum-told
     write-cut-requires
     slice-reshare-prefix-write-all
     slice-aggregate-write-all
@@ -168,22 +198,30 @@ run-spec =
     same-length-7
     same-length-8
     returns-2
-    add-to
-    slice-reshare-prefix-serve
-    slice-aggregate-serve
-    serve-requires
-    enum-known-from
-    enum-told
+    enum-told-2
+    slice-aggregate-write-all-2
+    write-all-requires-2
     same-length-9
     same-length-10
     same-length-11
     same-length-12
     returns-3
-    to-front-requires
-    loop-less
-    loop-again
+    add-to
+    slice-reshare-prefix-serve
+    slice-aggregate-serve
+    serve-requires
+    enum-known-from
+    enum-told-3
     same-length-13
     same-length-14
     same-length-15
     same-length-16
-    returns-4)
+    returns-4
+    to-front-requires
+    loop-less
+    loop-again
+    same-length-17
+    same-length-18
+    same-length-19
+    same-length-20
+    returns-5)

@@ -5,7 +5,7 @@ use mathlib.Core.Path.{_≡_, refl}
 use lib.ListN.{length, take, drop, length-set}
 use borrow.Author.Needs.{needs}
 use Rattle.meaning.specs.Octets.{part}
-use Rattle.input.proofs.Held.{move-turn}
+use Rattle.input.proofs.Held.{move-turn, moved}
 use Rattle.input.proofs.to_front.Statement.{statement}
 use Rattle.input.proofs.to_front.Tie as tie
 
@@ -50,8 +50,9 @@ same-length c = search needs
 returns : tie.Need-returns Inv-loop μ-loop
 returns c =
     let l = c .before .loop in
-    let e : l .i ≡ c .before .before .args .to - c .before .before .args .from = omega arith in
-    (refl, rw e at (l .inv .2))
+    let a = c .before .before .args in
+    let e : l .i ≡ a .to - a .from = omega arith in
+    (refl, moved (a .block .now) (l .block) (a .from) (a .to - a .from) (omega arith) (rw e at (l .inv .2)) (rw e at (l .inv .3)))
 
 pub to-front-spec : {M : Type 1} → statement M
 to-front-spec =
