@@ -15,6 +15,7 @@ mod rules;
 mod samples;
 mod sound;
 mod soundness;
+mod stack;
 mod stored;
 mod stored_script;
 mod subscriptions;

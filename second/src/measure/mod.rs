@@ -1,5 +1,8 @@
 //! The program `measure`: runs two bridges by turns on two large streams and tells their times.
 
+pub mod assembly;
+pub mod stack;
+
 use std::fs::{self, File};
 use std::io::{self, BufWriter, Seek, Write};
 use std::process::{self, Command, Stdio};
