@@ -1,6 +1,7 @@
 //! The program `measure`: runs two bridges by turns on two large streams and tells their times.
 
 pub mod assembly;
+pub mod gate;
 pub mod stack;
 
 use std::fs::{self, File};

@@ -4,6 +4,7 @@ mod bridge;
 mod compare;
 mod cut_law;
 mod examples;
+mod gate;
 mod kit;
 mod measure;
 mod no_panic;
