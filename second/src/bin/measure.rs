@@ -1,4 +1,4 @@
-//! Runs two bridges on the same large streams and prints their times.
+//! Prints one table: two bridges timed on the same large streams, a call's stack, the gate's time.
 
 use std::io::{self, ErrorKind};
 use std::process::ExitCode;

@@ -1,151 +1,200 @@
-//! The program `measure`: runs two bridges by turns on two large streams and tells their times.
+//! The program `measure`: what it is asked for, and the one table that it prints.
 
 pub mod assembly;
 pub mod gate;
+pub mod processor;
 pub mod stack;
+pub mod table;
+pub mod time;
 
-use std::fs::{self, File};
-use std::io::{self, BufWriter, Seek, Write};
-use std::process::{self, Command, Stdio};
-use std::time::{Duration, Instant};
-use std::{env, fmt};
+use std::io::{self, Write};
+use std::{fmt, fs};
 
 use crate::traffic::{self, Kind};
+use gate::{Gate, Part};
+use table::{Row, Table};
 
 /// How the program is called.
-pub const USAGE: &str = "usage: measure A B [COUNT]; A and B are paths of bridges, COUNT how many \
-frames a stream has (1000000 if left out)";
+pub const USAGE: &str =
+    "usage: measure [--stack CALL LIBRARY] [--gate LOG] BRIDGE SECOND [COUNT]; \
+BRIDGE is the path of the bridge that is measured, SECOND of the one that it is measured against, \
+COUNT how many frames a stream has (1000000 if left out), LIBRARY a static library for x86-64 that \
+has the message call under the name CALL, LOG what a gate printed";
 
 /// Frames of a stream where no count is given.
 const COUNT: u64 = 1_000_000;
-/// Runs of each program on each stream; odd, so that one of them is the median.
-const RUNS: usize = 5;
-/// The seed of the streams, which are the same in every measurement.
-const SEED: u64 = 1;
+/// How many times the time of the second bridge the other may take.
+const TIMES: f64 = 2.0;
+/// Octets of stack that a message call may take: the working copy, and all else.
+const STACK: [i64; 2] = [2_100, 1_024];
+/// Seconds that the gate may take.
+const GATE: f64 = 600.0;
 
 /// What to measure.
 #[derive(Debug, PartialEq, Eq)]
 pub struct Plan {
-    /// Paths of the two programs.
+    /// Paths of the bridge and of the second one.
     pub programs: [String; 2],
     /// Frames of each stream, but for one that fills memory.
     pub count: u64,
+    /// The call whose stack is to be read.
+    pub stack: Option<Exported>,
+    /// Path of what a gate printed.
+    pub gate: Option<String>,
+}
+
+/// A call in a library.
+#[derive(Debug, PartialEq, Eq)]
+pub struct Exported {
+    /// Its name.
+    pub call: String,
+    /// The library's path.
+    pub library: String,
 }
 
 impl Plan {
     /// Reads the arguments.
     pub fn parse(arguments: &[String]) -> Result<Plan, String> {
-        let (a, b, count) = match arguments {
-            [a, b] => (a, b, COUNT),
-            [a, b, count] => (a, b, traffic::number("COUNT", count)?),
+        let (mut stack, mut gate) = (None, None);
+        let mut rest = arguments;
+        loop {
+            match rest {
+                [word, call, library, behind @ ..] if word == "--stack" && stack.is_none() => {
+                    stack = Some(Exported {
+                        call: call.clone(),
+                        library: path_of(library),
+                    });
+                    rest = behind;
+                }
+                [word, log, behind @ ..] if word == "--gate" && gate.is_none() => {
+                    gate = Some(log.clone());
+                    rest = behind;
+                }
+                _ => break,
+            }
+        }
+        let (bridge, second, count) = match rest {
+            [word, ..] if word.starts_with("--") => return Err(USAGE.into()),
+            [bridge, second] => (bridge, second, COUNT),
+            [bridge, second, count] => (bridge, second, traffic::number("COUNT", count)?),
             _ => return Err(USAGE.into()),
         };
         if count == 0 || count == u64::MAX {
             return Err(format!("COUNT cannot be {count}"));
         }
+        let programs = [bridge, second].map(|path| path_of(path));
         Ok(Plan {
-            programs: [a.clone(), b.clone()],
+            programs,
             count,
+            stack,
+            gate,
         })
     }
 }
 
-/// Measures, and prints for each stream what it holds, the times, the medians and their ratio. An
-/// error is one of `output`, or tells what cannot be run or written.
-pub fn run<W: Write>(plan: &Plan, output: &mut W) -> io::Result<()> {
-    let [a, b] = &plan.programs;
-    writeln!(output, "A is {a:?}, B is {b:?}")?;
-    let count = plan.count;
-    let mixed = "a read, 16 reads, and a set with a read, by turns";
-    measure(plan, Kind::Mixed, count, mixed, output)?;
-    let empty = "one that sets every value a controller sets, a list of 64 entries among them, \
-        and commits, then empty messages";
-    measure(plan, Kind::Empty, count + 1, empty, output)
+/// A path that means a file wherever it is used: a bare name would be looked for on the PATH when it
+/// is run, and one that begins with a dash would be an option of the program that is handed it.
+fn path_of(word: &str) -> String {
+    match word.starts_with(['/', '.']) {
+        true => word.into(),
+        false => format!("./{word}"),
+    }
 }
 
-fn measure<W: Write>(
-    plan: &Plan,
-    kind: Kind,
-    count: u64,
-    holds: &str,
-    output: &mut W,
-) -> io::Result<()> {
-    let mut stream = stream(kind, count)?;
-    let size = stream.stream_position()?;
-    writeln!(output, "{count} frames, {size} octets: {holds}")?;
-    let mut times = [[Duration::ZERO; RUNS]; 2];
-    for turn in 0..RUNS {
-        for (program, times) in plan.programs.iter().zip(&mut times) {
-            times[turn] = time(program, &mut stream, size)?;
-        }
-        let [a, b] = times.map(|times| Shown(times[turn]));
-        writeln!(output, "run {}: A {a}, B {b}", turn + 1)?;
-        output.flush()?;
-    }
-    let [a, b] = times.map(median);
-    let ratio = a.as_secs_f64() / b.as_secs_f64();
-    let (a, b) = (Shown(a), Shown(b));
-    writeln!(output, "median: A {a}, B {b}, ratio A/B {ratio:.2}")?;
+/// Measures, and prints the table. An error is one of `output`, or tells what cannot be read, run
+/// or written. Files are read first, since runs take long.
+pub fn run<W: Write>(plan: &Plan, output: &mut W) -> io::Result<()> {
+    let stack = plan.stack.as_ref().map(stack_row).transpose()?;
+    let gate = plan.gate.as_deref().map(gate_rows).transpose()?;
+    let mut rows = time_rows(plan)?;
+    rows.extend(stack);
+    rows.extend(gate.into_iter().flatten());
+    write!(output, "{}", Table(rows))?;
     output.flush()
 }
 
-/// A file that holds a stream, at its end. It has no name any more, so that it is gone when the
-/// program ends, in whatever way.
-fn stream(kind: Kind, count: u64) -> io::Result<File> {
-    let folder = env::temp_dir();
-    let path = folder.join(format!("measure-{}", process::id()));
-    let written = || {
-        let mut options = File::options();
-        let file = options
-            .read(true)
-            .write(true)
-            .create_new(true)
-            .open(&path)?;
-        fs::remove_file(&path)?;
-        let mut sink = BufWriter::with_capacity(64 * 1024, file);
-        traffic::write(kind, SEED, count, &mut sink)?;
-        Ok(sink.into_inner()?)
+/// The bridge's times to those of the second one, or why they cannot be compared here.
+fn time_rows(plan: &Plan) -> io::Result<Vec<Row>> {
+    let obstacle = processor::obstacle(&plan.programs)?;
+    let count = plan.count;
+    // A stream of empty frames has one before them that fills memory.
+    let streams = [
+        (Kind::Mixed, count, "mixed"),
+        (Kind::Empty, count + 1, "empty"),
+    ];
+    let row = |(kind, frames, name)| {
+        let (ratio, from) = match &obstacle {
+            Some(why) => (None, format!("not measured: {why}")),
+            None => {
+                let ratio = time::measure(&plan.programs, kind, frames)?;
+                (Some(ratio.medians), ratio.to_string())
+            }
+        };
+        Ok(Row {
+            what: format!("time of the bridge to the second's, {count} {name} frames"),
+            ratio,
+            limit: Some(TIMES),
+            from,
+        })
     };
-    written().map_err(|error| told(format_args!("cannot write to {folder:?}"), &error))
+    streams.into_iter().map(row).collect()
 }
 
-/// How long a program takes for a stream, from its start to its end; what it prints is dropped.
-/// One that fails, or has not read the whole stream, did other work than was to be measured.
-fn time(program: &str, stream: &mut File, size: u64) -> io::Result<Duration> {
-    stream.rewind()?;
-    let mut command = Command::new(program);
-    command.stdin(stream.try_clone()?).stdout(Stdio::null());
-    let start = Instant::now();
-    let status = command
-        .status()
-        .map_err(|error| told(format_args!("cannot run {program:?}"), &error))?;
-    let taken = start.elapsed();
-    if !status.success() {
-        return Err(io::Error::other(format!("{program:?} ended with {status}")));
-    }
-    // The program's standard input and the file here share their position.
-    let read = stream.stream_position()?;
-    if read < size {
-        let what = format!("{program:?} has read {read} of {size} octets");
-        return Err(io::Error::other(what));
-    }
-    Ok(taken)
+fn stack_row(exported: &Exported) -> io::Result<Row> {
+    let Exported { call, library } = exported;
+    let deepest = stack::deepest(call, &stack::disassembly(library)?).map_err(|why| {
+        let what = format!("the stack cannot be read off {library:?}: {why}");
+        io::Error::other(what)
+    })?;
+    let octets = deepest.octets();
+    let [copy, beside] = STACK;
+    Ok(Row {
+        what: "stack of the message call to its limit".into(),
+        ratio: Some(octets as f64 / (copy + beside) as f64),
+        limit: Some(1.0),
+        from: format!("{octets} of {copy} + {beside} octets: {deepest}"),
+    })
 }
 
+fn gate_rows(path: &str) -> io::Result<Vec<Row>> {
+    let log = fs::read(path).map_err(|error| told(format_args!("cannot read {path:?}"), &error))?;
+    let gate = Gate::read(&String::from_utf8_lossy(&log)).map_err(|why| {
+        let what = format!("{path:?} is not what a gate printed that passed: {why}");
+        io::Error::other(what)
+    })?;
+    let from = match gate.whole {
+        Some(_) => format!("{} crates, {} edits", gate.proved, gate.all.edits),
+        None => "not measured: the log has no line 'real' of 'time'".into(),
+    };
+    let first = Row {
+        what: "time of the gate to ten minutes".into(),
+        ratio: gate.whole.map(|seconds| seconds / GATE),
+        limit: Some(1.0),
+        from,
+    };
+    let share = |part: &Part| share_row(part, gate.all.seconds());
+    let shares = [&gate.all].into_iter().chain(&gate.parts).map(share);
+    Ok([first].into_iter().chain(shares).collect())
+}
+
+/// The share of a crate in the seconds of all crates.
+fn share_row(part: &Part, all: u64) -> Row {
+    let share = |seconds: u64| seconds as f64 / all as f64;
+    let (check, edits) = (share(part.check), share(part.edits_took));
+    let count = match part.edits {
+        0 => String::new(),
+        1 => format!(", 1 edit {edits:.2}"),
+        n => format!(", {n} edits {edits:.2}"),
+    };
+    Row {
+        what: format!("share of {} in the gate", part.name),
+        ratio: Some(share(part.seconds())),
+        limit: None,
+        from: format!("check {check:.2}{count}"),
+    }
+}
+
+/// An error with what was to be done.
 fn told(what: fmt::Arguments, error: &io::Error) -> io::Error {
     io::Error::new(error.kind(), format!("{what}: {error}"))
-}
-
-fn median(mut times: [Duration; RUNS]) -> Duration {
-    times.sort_unstable();
-    times[RUNS / 2]
-}
-
-/// A time in milliseconds.
-struct Shown(Duration);
-
-impl fmt::Display for Shown {
-    fn fmt(&self, f: &mut fmt::Formatter) -> fmt::Result {
-        write!(f, "{:.3} ms", self.0.as_secs_f64() * 1_000.0)
-    }
 }

@@ -4,7 +4,7 @@ use second::measure::gate::{Gate, Part};
 
 /// What a gate prints that has proved a library and a program and tried three edits, with other
 /// lines around.
-const LOG: &str = "\
+pub const LOG: &str = "\
 test result: ok. 135 passed; 0 failed; 0 ignored; 0 measured; 0 filtered out; finished in 2.08s
 fn octets::fill: proved
 logic=proved functions=9 sum=064da1ca440f63e7

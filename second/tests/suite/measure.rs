@@ -1,49 +1,165 @@
-//! The program `measure`, as a child process.
+//! The program `measure`: its arguments, its table, and runs as a child process.
+
+use std::path::Path;
+use std::process::{Command, Output};
+use std::time::Duration;
+use std::{env, fs};
+
+use second::measure::table::{Row, Table};
+use second::measure::time::Ratio;
+use second::measure::{processor, Exported, Plan};
 
 use crate::process::{assert_quiet_without_reader, assert_refused, run, text};
 use crate::process::{BRIDGE, MEASURE, RIG};
+use crate::{gate, stack};
 
-/// The numbers of a line, in their order.
-fn numbers(line: &str) -> Vec<f64> {
-    let words = line.split(|c: char| !c.is_ascii_digit() && c != '.');
-    words.filter_map(|word| word.parse().ok()).collect()
+/// A folder with what stands in for a program that disassembles.
+const TOOLS: &str = concat!(env!("CARGO_MANIFEST_DIR"), "/tests/tools");
+
+/// A file for a test.
+fn file(name: &str, content: &[u8]) -> String {
+    let path = Path::new(env!("CARGO_TARGET_TMPDIR")).join(name);
+    fs::write(&path, content).unwrap();
+    path.to_str().unwrap().into()
 }
 
-fn median(mut times: Vec<f64>) -> f64 {
-    times.sort_by(f64::total_cmp);
-    times[times.len() / 2]
+/// Runs `measure` with another PATH.
+fn on_path(path: &str, arguments: &[&str]) -> Output {
+    let mut command = Command::new(MEASURE);
+    command.args(arguments).env("PATH", path).output().unwrap()
 }
 
-#[test]
-fn times_medians_and_ratios_are_printed() {
-    let output = run(MEASURE, &[BRIDGE, BRIDGE, "3000"], &[]);
+/// The cells of the table's rows. The table is all that is printed, and its columns are aligned.
+fn rows(output: &Output) -> Vec<[&str; 4]> {
     assert_eq!(text(&output.stderr), "");
     assert!(output.status.success());
     let lines: Vec<&str> = text(&output.stdout).lines().collect();
-    assert_eq!(lines[0], format!("A is {BRIDGE:?}, B is {BRIDGE:?}"));
-    assert_eq!(lines.len(), 1 + 2 * 7);
-    for (part, frames) in lines[1..].chunks(7).zip(["3000 frames, ", "3001 frames, "]) {
-        assert!(part[0].starts_with(frames), "{}", part[0]);
-        let runs: Vec<_> = part[1..6].iter().map(|line| numbers(line)).collect();
-        for (turn, run) in (1_u8..).zip(&runs) {
-            assert_eq!((run.len(), run[0]), (3, f64::from(turn)));
-        }
-        let medians = [1, 2].map(|program| median(runs.iter().map(|run| run[program]).collect()));
-        let told = numbers(part[6]);
-        assert_eq!(told[..2], medians, "{}", part[6]);
-        // The ratio is told to two places.
-        let ratio = medians[0] / medians[1];
-        assert!(
-            (told[2] - ratio).abs() < 0.005 + 0.01 * ratio,
-            "{}",
-            part[6]
-        );
+    assert!(lines.iter().all(|line| line.len() == lines[0].len()));
+    assert!(lines[1].starts_with("| ---"));
+    let cells = lines.into_iter().map(|line| {
+        let cells: Vec<&str> = line.split('|').map(str::trim).collect();
+        let ["", what, ratio, limit, from, ""] = cells[..] else {
+            panic!("{line}");
+        };
+        [what, ratio, limit, from]
+    });
+    let cells: Vec<_> = cells.collect();
+    assert_eq!(cells[0], ["what", "ratio", "limit", "from"]);
+    cells[2..].to_vec()
+}
+
+/// Asserts that a row has the times of two bridges.
+fn assert_timed(row: [&str; 4], what: &str) {
+    let [told, ratio, limit, from] = row;
+    assert_eq!([told, limit], [what, "2.00"]);
+    let ratio: f64 = ratio.parse().unwrap();
+    let from = from.strip_prefix("medians of 5 runs each, ").unwrap();
+    let turns = from.strip_suffix(" by turns").unwrap();
+    let (low, high) = turns.split_once(" to ").unwrap();
+    let [low, high]: [f64; 2] = [low, high].map(|turn| turn.parse().unwrap());
+    assert!(0.0 < low && low <= ratio && ratio <= high, "{row:?}");
+}
+
+#[test]
+fn one_table_has_all_that_is_asked_for() {
+    let library = file("asked.a", stack::LLVM.as_bytes());
+    let log = file("asked.log", gate::LOG.as_bytes());
+    let path = format!("{TOOLS}:{}", env::var("PATH").unwrap());
+    let mut words = vec!["--stack", "call", &library, "--gate", &log];
+    words.extend([BRIDGE, BRIDGE, "3000"]);
+    let output = on_path(&path, &words);
+    let rows = rows(&output);
+    for (row, kind) in rows.iter().zip(["mixed", "empty"]) {
+        let what = format!("time of the bridge to the second's, 3000 {kind} frames");
+        assert_timed(*row, &what);
     }
+    let rest: Vec<String> = rows[2..].iter().map(|cells| cells.join("; ")).collect();
+    let expected = "\
+stack of the message call to its limit; 0.04; 1.00; 112 of 2100 + 1024 octets: call 72, part::deep 40
+time of the gate to ten minutes; 0.15; 1.00; 2 crates, 3 edits
+share of all crates in the gate; 1.00; ; check 0.41, 3 edits 0.59
+share of bridge in the gate; 0.76; ; check 0.33, 1 edit 0.43
+share of octets in the gate; 0.24; ; check 0.09, 2 edits 0.16";
+    assert_eq!(rest.join("\n"), expected);
+}
+
+#[test]
+fn what_is_not_asked_for_or_not_told_is_left_out() {
+    assert_eq!(rows(&run(MEASURE, &[BRIDGE, BRIDGE, "10"], &[])).len(), 2);
+    let log = file("untimed.log", gate::LOG.replace("real", "").as_bytes());
+    let output = run(MEASURE, &["--gate", &log, BRIDGE, BRIDGE, "10"], &[]);
+    let why = "not measured: the log has no line 'real' of 'time'";
+    let untimed = ["time of the gate to ten minutes", "-", "1.00", why];
+    assert_eq!(rows(&output)[2], untimed);
+}
+
+#[test]
+fn a_table_is_aligned() {
+    let row = |what: &str, ratio, limit, from: &str| Row {
+        what: what.into(),
+        ratio,
+        limit,
+        from: from.into(),
+    };
+    let table = Table(vec![
+        row("a", Some(1.0 / 3.0), Some(12.5), "b"),
+        row("äöü", None, None, "some words"),
+    ]);
+    let expected = "\
+| what | ratio | limit | from       |
+| ---- | ----: | ----: | ---------- |
+| a    |  0.33 | 12.50 | b          |
+| äöü  |     - |       | some words |
+";
+    assert_eq!(table.to_string(), expected);
+}
+
+#[test]
+fn the_ratio_is_that_of_the_medians() {
+    let times = [[30, 10, 20, 90, 40], [10, 40, 20, 20, 80]];
+    let ratio = Ratio::of(times.map(|times| times.map(Duration::from_millis)));
+    let expected = Ratio {
+        medians: 1.5,
+        turns: [0.25, 4.5],
+    };
+    assert_eq!(ratio, expected);
+    let told = "medians of 5 runs each, 0.25 to 4.50 by turns";
+    assert_eq!(ratio.to_string(), told);
+}
+
+#[test]
+fn arguments_of_measure() {
+    let plan = |words: &str| Plan::parse(&words.split(' ').map(String::from).collect::<Vec<_>>());
+    let paths = |a: &str, b: &str| [a.into(), b.into()];
+    let bare = Plan {
+        programs: paths("./a", "/b/c"),
+        count: 1_000_000,
+        stack: None,
+        gate: None,
+    };
+    assert_eq!(plan("a /b/c"), Ok(bare));
+    let full = || Plan {
+        programs: paths("../a", "./-b/c"),
+        count: 7,
+        stack: Some(Exported {
+            call: "message".into(),
+            library: "./-x.a".into(),
+        }),
+        gate: Some("log".into()),
+    };
+    assert_eq!(
+        plan("--stack message -x.a --gate log ../a -b/c 7"),
+        Ok(full())
+    );
+    assert_eq!(
+        plan("--gate log --stack message -x.a ../a -b/c 7"),
+        Ok(full())
+    );
 }
 
 #[test]
 fn wrong_use_of_measure() {
-    let cases: [&[&str]; 8] = [
+    let cases: [&[&str]; 15] = [
         &[],
         &[BRIDGE],
         &[BRIDGE, BRIDGE, "few"],
@@ -52,6 +168,13 @@ fn wrong_use_of_measure() {
         &[BRIDGE, BRIDGE, "18446744073709551615"],
         &[BRIDGE, BRIDGE, "1", "2"],
         &["--help"],
+        &["--fast", BRIDGE, BRIDGE],
+        &["--gate"],
+        &["--gate", "log", BRIDGE],
+        &["--gate", "log", "--gate", "log", BRIDGE, BRIDGE],
+        &["--stack", "call", "library"],
+        &["--stack", "a", "b", "--stack", "a", "b", BRIDGE, BRIDGE],
+        &[BRIDGE, BRIDGE, "1", "--gate", "log"],
     ];
     for arguments in cases {
         assert_refused(MEASURE, arguments);
@@ -59,23 +182,104 @@ fn wrong_use_of_measure() {
     assert_quiet_without_reader(MEASURE, &[BRIDGE, BRIDGE, "10"], &[]);
 }
 
-/// The one line on standard error of a measurement that is given up.
-fn given_up(arguments: &[&str]) -> String {
-    let output = run(MEASURE, arguments, &[]);
+/// The line on standard error of a measurement that is given up, and prints nothing else.
+fn given_up(output: &Output) -> &str {
     assert_eq!(output.status.code(), Some(2));
-    text(&output.stderr).into()
+    assert_eq!(text(&output.stdout), "");
+    let line = text(&output.stderr).strip_prefix("measure: ").unwrap();
+    line.strip_suffix('\n').unwrap()
 }
 
 #[test]
 fn programs_that_cannot_be_measured() {
-    assert!(given_up(&["", BRIDGE, "1"]).starts_with("measure: cannot run \"\": "));
+    let given_up = |words: &[&str]| given_up(&run(MEASURE, words, &[])).to_owned();
+    assert!(given_up(&["", BRIDGE, "1"]).starts_with("cannot read \"./\": "));
     let missing = given_up(&[BRIDGE, "nowhere/bridge", "10"]);
-    assert!(missing.starts_with("measure: cannot run \"nowhere/bridge\": "));
-    let failing = given_up(&["false", BRIDGE, "10"]);
-    assert_eq!(failing, "measure: \"false\" ended with exit status: 1\n");
-    let idle = given_up(&[BRIDGE, "true", "1"]);
-    assert_eq!(idle, "measure: \"true\" has read 0 of 8 octets\n");
+    assert!(missing.starts_with("cannot read \"./nowhere/bridge\": "));
+    let failing = given_up(&["/bin/false", BRIDGE, "10"]);
+    assert_eq!(failing, "\"/bin/false\" ended with exit status: 1");
+    let idle = given_up(&[BRIDGE, "/bin/true", "1"]);
+    assert_eq!(idle, "\"/bin/true\" has read 0 of 8 octets");
     // Frames are no records, and a program that reads none of them to the end is found out.
     let other = given_up(&[RIG, BRIDGE, "100000"]);
     assert!(other.contains(" has read "), "{other}");
+    // A compiled program that nobody may run.
+    let copy = file("not_executable", &fs::read(BRIDGE).unwrap());
+    assert!(given_up(&[&copy, BRIDGE, "1"]).starts_with("cannot run "));
+}
+
+#[test]
+fn files_that_tell_nothing() {
+    let library = file("told.a", stack::LLVM.as_bytes());
+    let path = format!("{TOOLS}:{}", env::var("PATH").unwrap());
+    let stack = |path: &str, call: &str, library: &str| {
+        let words = ["--stack", call, library, BRIDGE, BRIDGE, "10"];
+        given_up(&on_path(path, &words)).to_owned()
+    };
+    let unknown = stack(&path, "calls", &library);
+    let why = format!("the stack cannot be read off {library:?}: it has no function calls");
+    assert_eq!(unknown, why);
+    let missing = stack(&path, "call", "nowhere.a");
+    let why = "llvm-objdump cannot read \"./nowhere.a\": ";
+    assert!(missing.starts_with(why), "{missing}");
+    let alone = stack("", "call", &library);
+    let why =
+        "neither llvm-objdump nor objdump is on the PATH, and the stack is read by one of them";
+    assert_eq!(alone, why);
+    let gate =
+        |log: &str| given_up(&run(MEASURE, &["--gate", log, BRIDGE, BRIDGE], &[])).to_owned();
+    assert!(gate("nowhere.log").starts_with("cannot read \"nowhere.log\": "));
+    let log = file("told.log", b"\xFFrt: octets proved (6 s)\n");
+    let why = format!(
+        "{log:?} is not what a gate printed that passed: it has no line 'N passed, 0 failed'"
+    );
+    assert_eq!(gate(&log), why);
+}
+
+#[test]
+fn the_processor_of_a_program_is_read_off_its_head() {
+    let mut head = *b"\x7FELF\x02\x01\x01\0\0\0\0\0\0\0\0\0\x03\0\x3E\x01 and more";
+    assert_eq!(processor::number(&head), Some(0x013E));
+    head[5] = 2;
+    assert_eq!(processor::number(&head), Some(0x3E01));
+    assert_eq!(processor::number(&head[..20]), Some(0x3E01));
+    assert_eq!(processor::number(&head[..19]), None);
+    head[5] = 3;
+    assert_eq!(processor::number(&head), None);
+    assert_eq!(
+        processor::number(b"#!/bin/sh\nexec emulator bridge\n"),
+        None
+    );
+    assert_eq!(processor::number(b""), None);
+}
+
+#[test]
+fn programs_for_another_processor_are_not_compared() {
+    let mut octets = fs::read(BRIDGE).unwrap();
+    octets[18] ^= 0xFF;
+    let foreign = file("foreign", &octets);
+    let script = file("script", b"#!/bin/sh\nexec emulator bridge\n");
+    for (bridge, second, why) in [
+        (
+            foreign.as_str(),
+            BRIDGE,
+            "not measured: the bridge is compiled for another processor than this machine's",
+        ),
+        (
+            BRIDGE,
+            foreign.as_str(),
+            "not measured: the second is compiled for another processor than this machine's",
+        ),
+        (
+            script.as_str(),
+            BRIDGE,
+            "not measured: the bridge is not a compiled program",
+        ),
+    ] {
+        let output = run(MEASURE, &[bridge, second], &[]);
+        let what = |kind| format!("time of the bridge to the second's, 1000000 {kind} frames");
+        let (mixed, empty) = (what("mixed"), what("empty"));
+        let expected = [[&*mixed, "-", "2.00", why], [&*empty, "-", "2.00", why]];
+        assert_eq!(rows(&output), expected);
+    }
 }

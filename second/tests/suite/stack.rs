@@ -4,7 +4,7 @@ use second::measure::stack::{deepest, Deepest};
 
 /// As llvm-objdump prints it: `call` has three registers and 40 octets on the stack, calls `deep`
 /// and the C library; `deep` has one register and reaches 24 octets below the stack pointer.
-const LLVM: &str = "
+pub const LLVM: &str = "
 library.a(part.o):\tfile format elf64-x86-64
 
 Disassembly of section .text.part::deep:
