@@ -1,5 +1,5 @@
 -- A command that is carried out: what number 0 says of it, and what the call then gives.
-use Prim.Native.Nat.{ℕ, zero, suc, _+_, _≤_}
+use Prim.Native.Nat.{ℕ, _+_, _≤_}
 use native.Mathlib.Omega.{arith}
 use mathlib.Core.Path.{_≡_, refl, sym, ap, _∙_}
 use mathlib.Core.Bool.{true, false, _||_, false≢true}
@@ -9,13 +9,14 @@ use lib.ListN.{length, drop, length-append, length-drop}
 use lib.Dec.{leb}
 use borrow.Author.Tests.{leb-true, le-leb, eqb-true}
 use Rattle.meaning.specs.Octets.{octet, every, implies}
-use Rattle.meaning.specs.Checks.{passed, firstFailed, settle}
+use Rattle.meaning.specs.Checks.{firstFailed}
 use Rattle.meaning.specs.Memory.{waiting, sound}
 use Rattle.meaning.specs.Operation.{Op, parse, isSome, orNone}
 use Rattle.meaning.specs.Step.{after}
 use Rattle.meaning.specs.Reply.{complete}
-use Rattle.meaning.specs.Calls.{done, told, call, isCommand, isAcknowledgement, lengthField, operations, opsOf, lengthRight, records, carriedOut, deed, fits, messageChecks, message}
-use Rattle.meaning.proofs.Tests.{every-at, implies-of, implied, first-passed, first-pass, all-passed}
+use Rattle.meaning.specs.Calls.{done, isCommand, isAcknowledgement, lengthField, operations, opsOf, lengthRight, records, carriedOut, deed, fits, messageChecks, message}
+use Rattle.meaning.proofs.Tests.{every-at, implies-of, implied, first-passed, all-passing}
+use Rattle.meaning.proofs.Settled.{call-done, call-passed}
 use Rattle.meaning.proofs.Records.{Fits, fits-opened, fits-closed}
 
 -- a command of these operations that a memory and a room of n octets carry out
@@ -50,18 +51,6 @@ right-length : (s : List ℕ) → 1 ≤ lengthField s → 3 + lengthField s ≤ 
 unfolding lengthRight every
 right-length s a b = simp (le-leb 3 (length s) (omega arith), le-leb _ _ a, le-leb _ _ b)
 
-pub accepted-passes : (m s : List ℕ) (n : ℕ) (os : List Op) → Accepted m s n os → firstFailed (messageChecks m s n) ≡ 0
-unfolding messageChecks
-accepted-passes m s n os a =
-    first-pass 1 _ _ (a .isSound)
-    (first-pass 2 _ _ (le-leb 1 (length s) (omega (arith, a .inside)))
-    (first-pass 3 _ _ (le-leb _ _ (a .long))
-    (first-pass 4 _ _ (rw (a .command))
-    (first-pass 5 _ _ (implies-of _ _ (λ _. right-length s (a .nonzero) (a .inside)))
-    (first-pass 6 _ _ (implies-of _ _ (λ _. ap isSome (a .parsed)))
-    (first-pass 8 _ _ (implies-of _ _ (λ e. absurd (false≢true (sym (one-type s (a .command)) ∙ e))))
-    (first-pass 7 _ passed (rw (deed-command m s (a .command), ops-parsed s os (a .parsed)) (fits-closed n m os (a .fit))) all-passed)))))))
-
 -- what a message's checks say where all pass
 pub record Passed (m s : List ℕ) (n : ℕ) : Type 0 where
   pub isSound : sound m ≡ true
@@ -72,6 +61,11 @@ pub record Passed (m s : List ℕ) (n : ℕ) : Type 0 where
   pub wellFormed : implies (isCommand s) (isSome (parse (operations s))) ≡ true
   pub awaited : implies (isAcknowledgement s) (waiting m) ≡ true
   pub fit : fits n (deed m s) ≡ true
+
+passed-message : (m s : List ℕ) (n : ℕ) → Passed m s n → firstFailed (messageChecks m s n) ≡ 0
+unfolding messageChecks
+passed-message m s n p =
+    all-passing (messageChecks m s n) (p .isSound, (p .nonempty, (p .short, (p .known, (p .lengthIs, (p .wellFormed, (p .awaited, (p .fit, tt))))))))
 
 pub message-passed : (m s : List ℕ) (n : ℕ) → firstFailed (messageChecks m s n) ≡ 0 → Passed m s n
 unfolding messageChecks
@@ -95,6 +89,20 @@ message-passed m s n e =
       fit = e7 .0;
     }
 
+pub accepted-passes : (m s : List ℕ) (n : ℕ) (os : List Op) → Accepted m s n os → firstFailed (messageChecks m s n) ≡ 0
+accepted-passes m s n os a =
+    passed-message m s n
+    record {
+      isSound = a .isSound;
+      nonempty = le-leb 1 (length s) (omega (arith, a .inside));
+      short = le-leb _ _ (a .long);
+      known = rw (a .command);
+      lengthIs = implies-of _ _ (λ _. right-length s (a .nonzero) (a .inside));
+      wellFormed = implies-of _ _ (λ _. ap isSome (a .parsed));
+      awaited = implies-of _ _ (λ e. absurd (false≢true (sym (one-type s (a .command)) ∙ e)));
+      fit = rw (deed-command m s (a .command), ops-parsed s os (a .parsed)) (fits-closed n m os (a .fit));
+    }
+
 pub passes-accepted : (m s : List ℕ) (n : ℕ) → isCommand s ≡ true → firstFailed (messageChecks m s n) ≡ 0 → Accepted m s n (opsOf s)
 unfolding lengthRight opsOf
 passes-accepted m s n c e =
@@ -113,22 +121,14 @@ passes-accepted m s n c e =
 -- what an accepted command's call gives
 pub accepted-call : (m s room : List ℕ) (os : List Op) → Accepted m s (length room) os
     → message m s room ≡ done (complete (records m os)) (after m os) room
-unfolding message call settle carriedOut
+unfolding message carriedOut
 accepted-call m s room os a =
-    rw (accepted-passes m s (length room) os a, deed-command m s (a .command), ops-parsed s os (a .parsed))
-
--- number 0 comes of checks that pass
-number-passed : (m s room : List ℕ) → message m s room .number ≡ 0 → firstFailed (messageChecks m s (length room)) ≡ 0
-unfolding message call settle
-number-passed m s room e = go (firstFailed (messageChecks m s (length room))) refl e
-  where
-    go : (k : ℕ) → firstFailed (messageChecks m s (length room)) ≡ k
-        → settle k (done (deed m s .reply) (deed m s .memory) room) (λ n. told n m room) .number ≡ 0 → firstFailed (messageChecks m s (length room)) ≡ 0
-    go zero h z = h
-    go (suc k) h z = absurd (omega arith)
+    call-done (messageChecks m s (length room)) _ m room (accepted-passes m s (length room) os a)
+    ∙ rw (deed-command m s (a .command), ops-parsed s os (a .parsed))
 
 pub carried-accepted : (m s room : List ℕ) → isCommand s ≡ true → message m s room .number ≡ 0 → Accepted m s (length room) (opsOf s)
-carried-accepted m s room c e = passes-accepted m s (length room) c (number-passed m s room e)
+unfolding message
+carried-accepted m s room c e = passes-accepted m s (length room) c (call-passed (messageChecks m s (length room)) _ m room e)
 
 -- octets written that fit leave the room as long as it was
 pub done-room : (w m room : List ℕ) → length w ≤ length room → length (done w m room .room) ≡ length room

@@ -14,9 +14,9 @@ use Rattle.meaning.specs.Block.{number, timeOk, entriesOf, interval, ent
 use Rattle.meaning.specs.Memory.{present, body, fourPresent}
 use Rattle.meaning.specs.Step.{block, commits}
 use Rattle.meaning.proofs.Lists.{Each}
-use Rattle.meaning.proofs.Tests.{and-left, and-right, and-both, every-at, same-true, same-refl}
+use Rattle.meaning.proofs.Tests.{and-left, and-right, and-both, every-at, same-refl}
 use Rattle.meaning.proofs.Sound.{Sound, entry-of, four-at}
-use Rattle.meaning.proofs.Kept.{permits-length}
+use Rattle.meaning.proofs.Kept.{permits-length, committing}
 use Rattle.meaning.proofs.Sums.{total, totals, first-sum, second-sum}
 
 -- ---- a block's four values
@@ -158,10 +158,11 @@ module _ (m v : List ℕ) (S : Sound m) where
       (body-fixed m S adminCycleTime (omega arith) (four-at m 3 f) 8 refl refl)
 
   pub commits-spelt : commits m v ≡ true → Commits m v
-  unfolding commits timeOk listOk ratioOk cycle
+  unfolding timeOk listOk ratioOk cycle
   commits-spelt e =
-      let f : fourPresent m ≡ true = every-at _ 0 e in
-      let g = sym (block-form f) ∙ every-at _ 2 e in
+      let t = committing m v e in
+      let f = t .four in
+      let g = sym (block-form f) ∙ t .form in
       let n : number count ≡ length list / 7 = eqb-true _ _ (every-at _ 5 g) in
       let k : number count ≤ 64 = leb-true _ _ (every-at _ 2 g) in
       let w : listOk list ≡ true = every-at _ 3 g in
@@ -170,7 +171,7 @@ module _ (m v : List ℕ) (S : Sound m) where
         countPresent = four-at m 1 f;
         listPresent = four-at m 2 f;
         ratioPresent = four-at m 3 f;
-        fourOctets = eqb-true _ _ (every-at _ 1 e);
+        fourOctets = t .fourOctets;
         nanoseconds = ltb-true _ _ (every-at _ 1 g);
         sevens = eqb-true _ _ (and-left _ _ w);
         entries = each-rule (entriesOf list) (and-right (eqb (length list % 7) 0) _ w);
@@ -179,7 +180,7 @@ module _ (m v : List ℕ) (S : Sound m) where
         atMost = omega arith;
         denominator = leb-true _ _ (every-at _ 4 g);
         fit = leb-true _ _ (every-at _ 7 g);
-        sumsAgree = same-true v (sums (block m)) (every-at _ 3 e) ∙ sums-plain-value (block m);
+        sumsAgree = t .sumsAgree ∙ sums-plain-value (block m);
       }
 
   spelt-form : fourPresent m ≡ true → Commits m v → formAndFit (block m) ≡ true

@@ -10,18 +10,19 @@ use lib.ListN.{length}
 use lib.Dec.{eqb}
 use borrow.Author.Tests.{leb-true, eqb-true, eq-eqb, ne-eqb, le-leb, lt-ltb, le-ltb}
 use Rattle.meaning.specs.Octets.{every, implies, nonempty, part}
-use Rattle.meaning.specs.Checks.{Checks, firstFailed, settle}
+use Rattle.meaning.specs.Checks.{firstFailed, settle}
 use Rattle.meaning.specs.Table.{Row, rowAt, rows, byPort, byController, place, listed, entryCount, memoryLength, commit}
-use Rattle.meaning.specs.Block.{permits, keeps, formAndFit, listOf, listOk, countOf, number}
+use Rattle.meaning.specs.Block.{sums, permits, keeps, formAndFit, listOf, listOk, countOf, number}
 use Rattle.meaning.specs.Memory.{cell, store, remark, setClock, subscribed, pending, isPending, isSubscribed, expiries, fourPresent, clockSound, sound, fresh}
 use Rattle.meaning.specs.Operation.{Op, capabilities, read, set, subscribe, unsubscribe}
 use Rattle.meaning.specs.Step.{block, commits, permitted, setChecks, stored, setMemory, subscribeMemory, unsubscribeMemory, step, after}
 use Rattle.meaning.specs.Calls.{Outcome, told, call, deed, carriedOut, acknowledged, isCommand, messageChecks, message, opsOf, localPermitted, differs, localMemory, localChecks, localValue, cleared, buildChecks, build, expired, expiryChecks, expiry, makeFresh}
 use Rattle.meaning.proofs.All.{all}
 use Rattle.meaning.proofs.Lists.{length-part}
-use Rattle.meaning.proofs.Tests.{and-left, every-at, first-passed}
+use Rattle.meaning.proofs.Tests.{same-true, and-left, every-at, first-passed}
 use Rattle.meaning.proofs.Places.{listed-place}
 use Rattle.meaning.proofs.Sound.{Sound, opened, entry-of, put-sound, remark-sound, setClock-sound}
+use Rattle.meaning.proofs.Settled.{call-memory, set-either}
 
 pub fresh-sound : sound fresh ≡ true
 unfolding all
@@ -54,16 +55,33 @@ block-permitted b e =
     let h = block-length b e in
     simp (le-leb 29 (length b) (h .0), le-leb (length b) 470 (h .1), e)
 
+-- what the test of a commit says where it passes
+pub record Committing (m v : List ℕ) : Type 0 where
+  pub four : fourPresent m ≡ true
+  pub fourOctets : length v ≡ 4
+  pub form : formAndFit (block m) ≡ true
+  pub sumsAgree : v ≡ sums (block m)
+
+pub committing : (m v : List ℕ) → commits m v ≡ true → Committing m v
+unfolding commits
+committing m v e =
+    record {
+      four = every-at _ 0 e;
+      fourOctets = eqb-true _ _ (every-at _ 1 e);
+      form = every-at _ 2 e;
+      sumsAgree = same-true v (sums (block m)) (every-at _ 3 e);
+    }
+
 -- a value that is permitted may be stored, and what is stored is
 pub stored-permitted : (m : List ℕ) (k : ℕ) (v : List ℕ) → permitted m k v ≡ true
     → (permits (rowAt k) (stored m k v) ≡ true) × (k ≡ commit → fourPresent m ≡ true)
-unfolding permitted stored commits
+unfolding permitted stored
 stored-permitted m k v e = go (ℕ-discrete k commit)
   where
     go : Dec (k ≡ commit) → (permits (rowAt k) (cond (eqb k commit) (block m) v) ≡ true) × (k ≡ commit → fourPresent m ≡ true)
     go (yes q) =
-        let c = simp (eq-eqb k commit q) at e in
-        (simp (eq-eqb k commit q) (rw q (block-permitted (block m) (every-at _ 2 c))), λ _. every-at _ 0 c)
+        let c = committing m v (simp (eq-eqb k commit q) at e) in
+        (simp (eq-eqb k commit q) (rw q (block-permitted (block m) (c .form))), λ _. c .four)
     go (no q) = (simp (ne-eqb k commit q) (simp (ne-eqb k commit q) at e), λ h. absurd (q h))
 
 pub store-sound : (m : List ℕ) (k : ℕ) (v : List ℕ) → Sound m → k < entryCount → permits (rowAt k) v ≡ true → (k ≡ commit → fourPresent m ≡ true)
@@ -87,15 +105,13 @@ settable m n v e =
     record { isListed = a .0; controls = b .0; allowed = c .0 }
 
 set-sound : (m : List ℕ) (n : ℕ) (v : List ℕ) → sound m ≡ true → sound (setMemory m n v) ≡ true
-unfolding setMemory settle
-set-sound m n v s = go (firstFailed (setChecks m n v)) refl
-  where
-    go : (k : ℕ) → firstFailed (setChecks m n v) ≡ k → sound (settle k (store m (place n) (stored m (place n) v)) (λ _. m)) ≡ true
-    go zero e =
-        let t = settable m n v e in
-        let p = stored-permitted m (place n) v (t .allowed) in
-        store-sound m (place n) (stored m (place n) v) (opened m s) (listed-place n (t .isListed)) (p .0) (p .1)
-    go (suc k) e = s
+set-sound m n v s =
+    set-either m n v (λ m′. sound m′ ≡ true)
+    (λ e.
+    let t = settable m n v e in
+    let p = stored-permitted m (place n) v (t .allowed) in
+    store-sound m (place n) (stored m (place n) v) (opened m s) (listed-place n (t .isListed)) (p .0) (p .1))
+    s
 
 -- ---- marks
 
@@ -139,15 +155,16 @@ unfolding after
 after-sound m [] s = s
 after-sound m (o ∷ os) s = after-sound (step m o) os (step-sound m o s)
 
--- ---- a call: what it does is looked at only where its checks pass
+-- ---- a message
 
-pub call-memory : (P : List ℕ → Type 0) (cs : Checks) (o : Outcome) (m room : List ℕ) → P m → (firstFailed cs ≡ 0 → P (o .memory)) → P (call cs o m room .memory)
-unfolding call settle
-call-memory P cs o m room p f = go (firstFailed cs) refl
+-- a command leaves the memory after its operations, an acknowledgement the timer idle and all else as it was
+pub deed-either : (P : List ℕ → Type 0) (m s : List ℕ) → P (after m (opsOf s)) → P (setClock m 0 0) → P (deed m s .memory)
+unfolding deed carriedOut acknowledged
+deed-either P m s f g = go (isCommand s)
   where
-    go : (n : ℕ) → firstFailed cs ≡ n → P (settle n o (λ k. told k m room) .memory)
-    go zero e = f e
-    go (suc n) e = p
+    go : (b : Bool) → P (cond b (carriedOut m (opsOf s)) (acknowledged m) .memory)
+    go true = f
+    go false = g
 
 abbrev IsSound : List ℕ → Type 0
 IsSound m = sound m ≡ true
@@ -161,12 +178,10 @@ unfolding clockSound
 clock-waiting n h = le-leb n 4 h
 
 pub message-sound : (m s room : List ℕ) → sound m ≡ true → sound (message m s room .memory) ≡ true
-unfolding message deed carriedOut acknowledged
-message-sound m s room h = call-memory IsSound (messageChecks m s (length room)) _ m room h (λ e. go (isCommand s))
-  where
-    go : (b : Bool) → sound (cond b (carriedOut m (opsOf s)) (acknowledged m) .memory) ≡ true
-    go true = after-sound m (opsOf s) h
-    go false = setClock-sound m 0 0 (opened m h) clock-idle
+unfolding message
+message-sound m s room h =
+    call-memory IsSound (messageChecks m s (length room)) _ m room h
+    (λ e. deed-either IsSound m s (after-sound m (opsOf s) h) (setClock-sound m 0 0 (opened m h) clock-idle))
 
 -- ---- a local value
 

@@ -5,6 +5,7 @@ pub mod Tests
 pub mod Places
 pub mod Sound
 pub mod Spelt
+pub mod Settled
 pub mod Kept
 pub mod Marks
 pub mod Sums

@@ -1,5 +1,5 @@
 -- What the subscribed and pending marks do: a set never marks anything pending, subscribe and unsubscribe, a local value.
-use Prim.Native.Nat.{ℕ, zero, suc, _≤_, _<_}
+use Prim.Native.Nat.{ℕ, _≤_, _<_}
 use native.Mathlib.Omega.{arith}
 use native.Mathlib.Decide.{ℕ-discrete}
 use mathlib.Core.Path.{_≡_, refl, sym, ap, _∙_}
@@ -10,13 +10,14 @@ use lib.ListN.{length}
 use lib.Dec.{leb}
 use borrow.Author.Tests.{leb-true, eqb-true, not-false}
 use Rattle.meaning.specs.Octets.{same, nonempty, below, implies}
-use Rattle.meaning.specs.Checks.{firstFailed, settle}
+use Rattle.meaning.specs.Checks.{firstFailed}
 use Rattle.meaning.specs.Table.{rowAt, rows, place, listed, byPort, entryCount}
 use Rattle.meaning.specs.Memory.{cell, size, body, flags, put, store, remark, present, subscribed, pending, sound}
 use Rattle.meaning.specs.Step.{stored, setChecks, setMemory, subscribeMemory, unsubscribeMemory}
 use Rattle.meaning.specs.Calls.{differs, localMemory}
 use Rattle.meaning.proofs.Tests.{same-true, same-refl, implied, below-at}
 use Rattle.meaning.proofs.Places.{listed-place, cell-put-same, cell-put-other}
+use Rattle.meaning.proofs.Settled.{set-either}
 use Rattle.meaning.proofs.Sound.{Sound, opened, entry-of, subscribed-cellOf, pending-cellOf, cell-remark-same, cell-remark-other}
 use Rattle.meaning.proofs.Kept.{permits-length, permits-most, stored-permitted, settable, Local, local-held}
 use Rattle.meaning.proofs.Commit.{body-permitted}
@@ -64,8 +65,9 @@ module _ (m : List ℕ) (k : ℕ) (s q : Bool) (S : Sound m) (hk : k < entryCoun
 -- ---- a set never marks anything pending, nor touches a subscription
 
 pub set-marks : (m : List ℕ) (n : ℕ) (v : List ℕ) → sound m ≡ true → (j : ℕ) → j < entryCount → SameMarks m (setMemory m n v) j
-unfolding setMemory settle store
-set-marks m n v s j hj = go (firstFailed (setChecks m n v)) refl
+unfolding store
+set-marks m n v s j hj =
+    set-either m n v (λ m′. SameMarks m m′ j) (λ e. put-there e (ℕ-discrete j (place n))) (record { subscription = refl; pendency = refl })
   where
     put-there : firstFailed (setChecks m n v) ≡ 0 → Dec (j ≡ place n) → SameMarks m (store m (place n) (stored m (place n) v)) j
     put-there e d =
@@ -80,10 +82,6 @@ set-marks m n v s j hj = go (firstFailed (setChecks m n v)) refl
           | no ne ↦ put-marks-other m k true (subscribed m k) (pending m k) w (opened m s) hk hv j hj ne
         ] in
         at d
-
-    go : (c : ℕ) → firstFailed (setChecks m n v) ≡ c → SameMarks m (settle c (store m (place n) (stored m (place n) v)) (λ _. m)) j
-    go zero e = put-there e (ℕ-discrete j (place n))
-    go (suc c) e = record { subscription = refl; pendency = refl }
 
 -- ---- subscribe sets the mark; unsubscribe clears subscribed and pending
 

@@ -52,7 +52,7 @@ report-value m k e = rw e
 
 pub report-absent : (m : List ℕ) (k : ℕ) → present m k ≡ false → report m k ≡ readError (rowAt k .name) 0x03
 unfolding report
-report-absent m k e = rw e
+report-absent m k e = ap (λ (b : Bool). cond b (value (rowAt k .name) (body m k)) (readError (rowAt k .name) 0x03)) e
 
 -- what holds of both holds of a report
 report-either : (P : Answer → Type 0) (m : List ℕ) (k : ℕ) → P (value (rowAt k .name) (body m k)) → P (readError (rowAt k .name) 0x03) → P (report m k)

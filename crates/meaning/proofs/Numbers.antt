@@ -4,18 +4,20 @@ use Prim.Native.Nat.{ℕ, zero, suc, _+_, _*_, _≤_, _<_}
 use native.Mathlib.Omega.{arith}
 use mathlib.Core.Path.{_≡_, refl}
 use mathlib.Core.Logic.{_≢_, _⊎_, inl, inr}
-use mathlib.Core.Bool.{Bool, true, false, _||_}
+use mathlib.Core.Bool.{Bool, true, false, _||_, not}
 use mathlib.Core.Option.{none, some}
 use mathlib.Core.List.{List, [], append-nil}
 use lib.ListN.{length}
+use lib.Dec.{leb}
 use borrow.Author.Tests.{leb-true, le-leb, lt-leb, eq-eqb, ne-eqb}
 use Rattle.meaning.specs.Octets.{octet, at16, every, implies, nonempty}
-use Rattle.meaning.specs.Checks.{Checks, passed, check, firstFailed, settle}
+use Rattle.meaning.specs.Checks.{Checks, passed, check, firstFailed}
 use Rattle.meaning.specs.Table.{entryCount, memoryLength}
 use Rattle.meaning.specs.Memory.{pending, waiting, sound}
 use Rattle.meaning.specs.Operation.{Op, parse, isSome}
-use Rattle.meaning.specs.Calls.{Outcome, told, call, isCommand, isAcknowledgement, lengthField, operations, lengthRight, records, carriedOut, acknowledged, deed, fits, messageChecks, message, localPermitted, localChecks, localValue, reports, buildChecks, build, expiryChecks, expiry, makeFresh}
-use Rattle.meaning.proofs.Tests.{every-at}
+use Rattle.meaning.specs.Calls.{told, isCommand, isAcknowledgement, lengthField, operations, lengthRight, records, carriedOut, acknowledged, deed, fits, messageChecks, message, localPermitted, localChecks, localValue, reports, buildChecks, build, expiryChecks, expiry, makeFresh}
+use Rattle.meaning.proofs.Tests.{every-at, first-fails, first-after}
+use Rattle.meaning.proofs.Settled.{call-refused}
 use Rattle.meaning.proofs.Records.{Fits, fits-opened}
 use Rattle.meaning.proofs.Accepted.{ops-parsed}
 
@@ -25,11 +27,6 @@ unfolding reports
 no-reports m zero p = refl
 no-reports m (suc k) p =
     rw (p k (omega arith), append-nil (reports m k)) (no-reports m k (λ j h. p j (omega arith)))
-
--- a call whose first failing check has the number n gives that number and changes nothing
-refuses : (cs : Checks) (o : Outcome) (m room : List ℕ) (n : ℕ) → firstFailed cs ≡ suc n → call cs o m room ≡ told (suc n) m room
-unfolding call settle
-refuses cs o m room n e = rw e
 
 -- ---- a message: 1 to 6, with 8 for type 04, then 7
 
@@ -76,7 +73,7 @@ not-fitting n m os no-fit = go (fits n (carriedOut m os)) refl
 module _ (m s room : List ℕ) where
   first-is : (n : ℕ) → firstFailed (messageChecks m s (length room)) ≡ suc n → message m s room ≡ told (suc n) m room
   unfolding message
-  first-is n e = refuses (messageChecks m s (length room)) _ m room n e
+  first-is n e = call-refused (messageChecks m s (length room)) _ m room n e
 
   pub message-1 : sound m ≡ false → message m s room ≡ told 1 m room
   unfolding messageChecks firstFailed
@@ -141,15 +138,17 @@ module _ (m s room : List ℕ) where
 module _ (m room : List ℕ) where
   build-is : (n : ℕ) → firstFailed (buildChecks m (length room)) ≡ suc n → build m room ≡ told (suc n) m room
   unfolding build
-  build-is n e = refuses (buildChecks m (length room)) _ m room n e
+  build-is n e = call-refused (buildChecks m (length room)) _ m room n e
 
   pub build-1 : sound m ≡ false → build m room ≡ told 1 m room
   unfolding buildChecks firstFailed
   build-1 e = build-is 0 (simp e)
 
   pub build-11 : sound m ≡ true → length room < 1600 → build m room ≡ told 11 m room
-  unfolding buildChecks firstFailed
-  build-11 e h = build-is 10 (simp (e, lt-leb 1600 (length room) h))
+  unfolding buildChecks
+  build-11 e h =
+      let later = check 10 (not (waiting m)) (check 9 (nonempty (reports m entryCount)) passed) in
+      build-is 10 (first-after 1 (sound m) _ 11 e (first-fails 11 (leb 1600 (length room)) later (lt-leb 1600 (length room) h)))
 
   pub build-10 : sound m ≡ true → 1600 ≤ length room → waiting m ≡ true → build m room ≡ told 10 m room
   unfolding buildChecks firstFailed
@@ -163,20 +162,20 @@ module _ (m room : List ℕ) where
 
 pub localValue-1 : (m : List ℕ) (n : ℕ) (v : List ℕ) → sound m ≡ false → localValue m n v ≡ told 1 m []
 unfolding localValue localChecks firstFailed
-localValue-1 m n v e = refuses (localChecks m n v) _ m [] 0 (simp e)
+localValue-1 m n v e = call-refused (localChecks m n v) _ m [] 0 (simp e)
 
 pub localValue-12 : (m : List ℕ) (n : ℕ) (v : List ℕ) → sound m ≡ true → localPermitted n v ≡ false → localValue m n v ≡ told 12 m []
 unfolding localValue localChecks firstFailed
-localValue-12 m n v e p = refuses (localChecks m n v) _ m [] 11 (simp (e, p))
+localValue-12 m n v e p = call-refused (localChecks m n v) _ m [] 11 (simp (e, p))
 
 pub expiry-1 : (m : List ℕ) → sound m ≡ false → expiry m ≡ told 1 m []
 unfolding expiry expiryChecks firstFailed
-expiry-1 m e = refuses (expiryChecks m) _ m [] 0 (simp e)
+expiry-1 m e = call-refused (expiryChecks m) _ m [] 0 (simp e)
 
 pub expiry-8 : (m : List ℕ) → sound m ≡ true → waiting m ≡ false → expiry m ≡ told 8 m []
 unfolding expiry expiryChecks firstFailed
-expiry-8 m e w = refuses (expiryChecks m) _ m [] 7 (simp (e, w))
+expiry-8 m e w = call-refused (expiryChecks m) _ m [] 7 (simp (e, w))
 
 pub makeFresh-1 : (m : List ℕ) → length m ≢ memoryLength → makeFresh m ≡ told 1 m []
 unfolding makeFresh firstFailed
-makeFresh-1 m h = refuses _ _ m [] 0 (simp (ne-eqb _ _ h))
+makeFresh-1 m h = call-refused _ _ m [] 0 (simp (ne-eqb _ _ h))

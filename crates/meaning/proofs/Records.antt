@@ -1,10 +1,11 @@
 -- Laws of records: joining, answers gathered, operations one after another, and that a part's reply fits wherever the whole's does.
 use Prim.Native.Nat.{ℕ, _+_, _≤_, zero-le}
 use native.Mathlib.Omega.{arith}
-use mathlib.Core.Path.{_≡_, refl, sym, ap, subst}
+use mathlib.Core.Path.{_≡_, refl, sym, ap, subst, _∙_}
 use mathlib.Core.Bool.{Bool, true, false, _||_, cond, or-assoc, or-false, or-true, false≢true}
 use mathlib.Core.List.{List, [], _∷_, _++_, append-assoc, append-nil}
 use lib.ListN.{length, length-append}
+use lib.Dec.{leb}
 use borrow.Author.Tests.{leb-true, le-leb}
 use Rattle.meaning.specs.Octets.{be16, flat, nonempty, every}
 use Rattle.meaning.specs.Operation.{Op}
@@ -104,9 +105,16 @@ pub record Fits (room : ℕ) (r : Records) : Type 0 where
   pub updates : length (r .updates) ≤ 255
   pub updateErrors : length (r .updateErrors) ≤ 255
 
+-- number 7 looks at the reply that is made of the records which answer the operations
+fits-reply : (room : ℕ) (m : List ℕ) (os : List Op)
+    → fits room (carriedOut m os) ≡ every (leb (length (complete (records m os))) room ∷ leb (length (complete (records m os))) 4096 ∷ countsFit (records m os) ∷ [])
+unfolding fits carriedOut
+fits-reply room m os = refl
+
 pub fits-opened : (room : ℕ) (m : List ℕ) (os : List Op) → fits room (carriedOut m os) ≡ true → Fits room (records m os)
-unfolding fits carriedOut countsFit
-fits-opened room m os e =
+unfolding countsFit
+fits-opened room m os f =
+    let e = sym (fits-reply room m os) ∙ f in
     let c = every-at _ 2 e in
     record {
       inRoom = leb-true _ _ (every-at _ 0 e);
@@ -118,9 +126,10 @@ fits-opened room m os e =
     }
 
 pub fits-closed : (room : ℕ) (m : List ℕ) (os : List Op) → Fits room (records m os) → fits room (carriedOut m os) ≡ true
-unfolding fits carriedOut countsFit every
+unfolding countsFit every
 fits-closed room m os f =
-    simp (
+    fits-reply room m os
+    ∙ simp (
       le-leb _ _ (f .inRoom),
       le-leb _ _ (f .inLimit),
       le-leb _ _ (f .values),

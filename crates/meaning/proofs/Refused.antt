@@ -1,6 +1,6 @@
 -- Law 2: numbers 1 to 12 return length 0 and change no octet of memory or room; 20 and 21 return length 0 and change only octets
 -- 114 and 115; octets of the room after a reply or notification stay.
-use Prim.Native.Nat.{ℕ, zero, suc, _+_, _≤_, _<_}
+use Prim.Native.Nat.{ℕ, suc, _+_, _≤_, _<_}
 use native.Mathlib.Omega.{arith}
 use native.Mathlib.Decide.{decLe}
 use mathlib.Core.Path.{_≡_, refl, sym, ap, _∙_}
@@ -10,13 +10,14 @@ use mathlib.Core.List.{List, [], _++_}
 use lib.ListN.{length, drop}
 use borrow.Author.Tests.{leb-true}
 use Rattle.meaning.specs.Octets.{octet}
-use Rattle.meaning.specs.Checks.{Checks, passed, check, firstFailed, settle}
+use Rattle.meaning.specs.Checks.{Checks, passed, check, firstFailed}
 use Rattle.meaning.specs.Table.{entryCount, clockAt, memoryLength}
 use Rattle.meaning.specs.Memory.{setClock, expiries, sound}
 use Rattle.meaning.specs.Calls.{Outcome, done, told, call, deed, fits, messageChecks, message, localChecks, localValue, notification, cleared, buildChecks, build, expired, expiryChecks, expiry, makeFresh}
 use Rattle.meaning.proofs.Lists.{octet-part}
 use Rattle.meaning.proofs.Tests.{every-at, first-passed}
 use Rattle.meaning.proofs.Places.{setClock-length, part-setClock}
+use Rattle.meaning.proofs.Settled.{call-either}
 use Rattle.meaning.proofs.Sound.{opened}
 use Rattle.meaning.proofs.Kept.{expired-either}
 use Rattle.meaning.proofs.Accepted.{message-passed, done-room}
@@ -36,12 +37,8 @@ first-most n (check k true cs) h = first-most n cs (h .1)
 first-most n (check k false cs) h = h .0
 
 call-number : (n : ℕ) (cs : Checks) (o : Outcome) (m room : List ℕ) → AtMost n cs → o .number ≤ n → call cs o m room .number ≤ n
-unfolding call settle
-call-number n cs o m room h k = go (firstFailed cs) (first-most n cs h)
-  where
-    go : (f : ℕ) → f ≤ n → settle f o (λ i. told i m room) .number ≤ n
-    go zero l = k
-    go (suc f) l = l
+call-number n cs o m room h k =
+    call-either (λ r. r .number ≤ n) cs o m room (λ e. k) (λ f e. omega (arith, e, first-most n cs h))
 
 pub message-number : (m s room : List ℕ) → message m s room .number ≤ 8
 unfolding message messageChecks
@@ -61,14 +58,11 @@ makeFresh-number m = call-number 1 _ _ m [] (omega arith) (omega arith)
 
 -- 20 and 21 are an expiry's alone
 pub expiry-number : (m : List ℕ) → (expiry m .number ≤ 8) ⊎ ((expiry m .number ≡ 20) ⊎ (expiry m .number ≡ 21))
-unfolding expiry call settle expiryChecks
-expiry-number m = go (firstFailed (expiryChecks m)) (first-most 8 (expiryChecks m) (omega arith))
-  where
-    go : (f : ℕ) → f ≤ 8
-        → let n = settle f (expired m) (λ i. told i m []) .number in
-        (n ≤ 8) ⊎ ((n ≡ 20) ⊎ (n ≡ 21))
-    go zero l = inr (expired-either (λ o. (o .number ≡ 20) ⊎ (o .number ≡ 21)) m (λ h. inl refl) (inr refl))
-    go (suc f) l = inl l
+unfolding expiry expiryChecks
+expiry-number m =
+    call-either (λ o. (o .number ≤ 8) ⊎ ((o .number ≡ 20) ⊎ (o .number ≡ 21))) (expiryChecks m) (expired m) m []
+    (λ e. inr (expired-either (λ o. (o .number ≡ 20) ⊎ (o .number ≡ 21)) m (λ h. inl refl) (inr refl)))
+    (λ f e. inl (omega (arith, e, first-most 8 (expiryChecks m) (omega arith))))
 
 -- ---- a refusal
 
@@ -79,14 +73,13 @@ pub record Unchanged (o : Outcome) (m room : List ℕ) : Type 0 where
 
 refusal : (cs : Checks) (o : Outcome) (m room : List ℕ) → (o .number ≡ 0) ⊎ (12 < o .number) → 1 ≤ call cs o m room .number → call cs o m room .number ≤ 12
     → Unchanged (call cs o m room) m room
-unfolding call settle
-refusal cs o m room d a b = go (firstFailed cs) d a b
+refusal cs o m room d =
+    call-either (λ r. 1 ≤ r .number → r .number ≤ 12 → Unchanged r m room) cs o m room (λ e. other d)
+    (λ f e a b. record { nothing = refl; sameMemory = refl; sameRoom = refl })
   where
-    go : (f : ℕ) → (o .number ≡ 0) ⊎ (12 < o .number) → 1 ≤ settle f o (λ i. told i m room) .number → settle f o (λ i. told i m room) .number ≤ 12
-        → Unchanged (settle f o (λ i. told i m room)) m room
-    go zero (inl z) x y = absurd (omega arith)
-    go zero (inr z) x y = absurd (omega arith)
-    go (suc f) z x y = record { nothing = refl; sameMemory = refl; sameRoom = refl }
+    other : (o .number ≡ 0) ⊎ (12 < o .number) → 1 ≤ o .number → o .number ≤ 12 → Unchanged o m room
+    other (inl z) a b = absurd (omega arith)
+    other (inr z) a b = absurd (omega arith)
 
 pub message-refused : (m s room : List ℕ) → 1 ≤ message m s room .number → Unchanged (message m s room) m room
 unfolding message
@@ -126,20 +119,18 @@ clock-others m w n hm i a b =
     apart (no h) = inl (omega arith)
 
 pub expiry-clock : (m : List ℕ) → 12 < expiry m .number → OnlyClock (expiry m) m
-unfolding expiry call settle expiryChecks
-expiry-clock m a = go (firstFailed (expiryChecks m)) refl (first-most 8 (expiryChecks m) (omega arith)) a
+unfolding expiry expiryChecks
+expiry-clock m =
+    call-either (λ o. 12 < o .number → OnlyClock o m) (expiryChecks m) (expired m) m []
+    (λ e h.
+    let s = first-passed 0 _ _ e .0 in
+    expired-either (λ o. OnlyClock o m) m (λ _. set s 20 1 (expiries m + 1)) (set s 21 0 0))
+    (λ f e h. absurd (omega (arith, e, first-most 8 (expiryChecks m) (omega arith))))
   where
     set : sound m ≡ true → (k w n : ℕ) → OnlyClock (told k (setClock m w n) []) m
     set s k w n =
         let hm = opened m s .long in
         record { written = refl; long = setClock-length m w n hm ∙ sym hm; others = clock-others m w n hm }
-
-    go : (f : ℕ) → firstFailed (expiryChecks m) ≡ f → f ≤ 8 → 12 < settle f (expired m) (λ i. told i m []) .number
-        → OnlyClock (settle f (expired m) (λ i. told i m [])) m
-    go zero e l h =
-        let s = first-passed 0 _ _ e .0 in
-        expired-either (λ o. OnlyClock o m) m (λ _. set s 20 1 (expiries m + 1)) (set s 21 0 0)
-    go (suc f) e l h = absurd (omega arith)
 
 -- ---- the room
 
@@ -150,12 +141,10 @@ pub record RoomAfter (o : Outcome) (room : List ℕ) : Type 0 where
   pub after : o .room ≡ o .written ++ drop (length (o .written)) room
 
 call-room : (cs : Checks) (w m′ m room : List ℕ) → (firstFailed cs ≡ 0 → length w ≤ length room) → RoomAfter (call cs (done w m′ room) m room) room
-unfolding call settle
-call-room cs w m′ m room h = go (firstFailed cs) refl
-  where
-    go : (f : ℕ) → firstFailed cs ≡ f → RoomAfter (settle f (done w m′ room) (λ i. told i m room)) room
-    go zero e = record { inRoom = h e; long = done-room w m′ room (h e); after = refl }
-    go (suc f) e = record { inRoom = omega arith; long = refl; after = refl }
+call-room cs w m′ m room h =
+    call-either (λ o. RoomAfter o room) cs (done w m′ room) m room
+    (λ e. record { inRoom = h e; long = done-room w m′ room (h e); after = refl })
+    (λ f e. record { inRoom = omega arith; long = refl; after = refl })
 
 pub message-room : (m s room : List ℕ) → RoomAfter (message m s room) room
 unfolding message fits
@@ -178,12 +167,7 @@ told-room : (n : ℕ) (m : List ℕ) → RoomAfter (told n m []) []
 told-room n m = record { inRoom = omega arith; long = refl; after = refl }
 
 call-no-room : (cs : Checks) (o : Outcome) (m : List ℕ) → RoomAfter o [] → RoomAfter (call cs o m []) []
-unfolding call settle
-call-no-room cs o m h = go (firstFailed cs)
-  where
-    go : (f : ℕ) → RoomAfter (settle f o (λ n. told n m [])) []
-    go zero = h
-    go (suc f) = told-room (suc f) m
+call-no-room cs o m h = call-either (λ r. RoomAfter r []) cs o m [] (λ e. h) (λ f e. told-room (suc f) m)
 
 pub localValue-room : (m : List ℕ) (n : ℕ) (v : List ℕ) → RoomAfter (localValue m n v) []
 unfolding localValue

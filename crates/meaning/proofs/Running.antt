@@ -11,17 +11,18 @@ use lib.ListN.{length, getD}
 use lib.Dec.{eqb}
 use borrow.Author.Tests.{eqb-true, eq-eqb}
 use Rattle.meaning.specs.Octets.{nonempty}
-use Rattle.meaning.specs.Checks.{firstFailed, settle, passed}
+use Rattle.meaning.specs.Checks.{firstFailed, settle}
 use Rattle.meaning.specs.Table.{Row, nobody, row, rowAt, rows, placeIn, place, listed, byController, byPort, free, entryCount, commit}
 use Rattle.meaning.specs.Block.{permits}
 use Rattle.meaning.specs.Memory.{present, subscribed, pending, body, store, remark, setClock, sound, expiries}
 use Rattle.meaning.specs.Operation.{Op, capabilities, read, set, subscribe, unsubscribe}
 use Rattle.meaning.specs.Step.{block, commits, permitted, setChecks, stored, setMemory, setAnswer, subscribeMemory, unsubscribeMemory, step, answer, update, after}
-use Rattle.meaning.specs.Calls.{isCommand, carriedOut, acknowledged, deed, opsOf, messageChecks, message, differs, localMemory, localChecks, localValue, cleared, buildChecks, build, expired, expiryChecks, expiry}
-use Rattle.meaning.proofs.Tests.{first-passed, first-pass, all-passed}
+use Rattle.meaning.specs.Calls.{opsOf, messageChecks, message, differs, localMemory, localChecks, localValue, cleared, buildChecks, build, expired, expiryChecks, expiry}
+use Rattle.meaning.proofs.Tests.{first-passed, all-passing}
 use Rattle.meaning.proofs.Places.{listed-place}
+use Rattle.meaning.proofs.Settled.{call-memory, set-stores, set-either}
 use Rattle.meaning.proofs.Sound.{Sound, opened, put-present-same, put-present-other, put-body-same, put-body-other, present-remark, body-remark, present-setClock, body-setClock}
-use Rattle.meaning.proofs.Kept.{permits-most, stored-permitted, Settable, settable, step-sound, call-memory, cleared-sound, Local, local-opened, local-held, commit-not-port, expired-either}
+use Rattle.meaning.proofs.Kept.{permits-most, stored-permitted, Settable, settable, step-sound, cleared-sound, deed-either, Local, local-opened, local-held, commit-not-port, expired-either}
 use Rattle.meaning.proofs.Commit.{Commits, commits-spelt, spelt-commits}
 
 -- ---- the statement
@@ -110,14 +111,13 @@ marks-same m n m′ f = go (listed n) refl
     go true e = f e
     go false e = same-running m
 
--- what a set does to the running block: nothing, or it is a commit; c is the cause, 0 where it succeeds
-abbrev SetThen : List ℕ → ℕ → List ℕ → ℕ → Type 0
-SetThen m n v c =
-    SameRunning m (settle c (store m (place n) (stored m (place n) v)) (λ _. m))
-    ⊎ ((n ≡ 0x8001) × Commits m v × Runs (settle c (store m (place n) (stored m (place n) v)) (λ _. m)) (block m))
+-- what a set does to the running block, m′ the memory after it: nothing, or it is a commit
+abbrev SetThen : List ℕ → ℕ → List ℕ → List ℕ → Type 0
+SetThen m n v m′ = SameRunning m m′ ⊎ ((n ≡ 0x8001) × Commits m v × Runs m′ (block m))
 
-set-succeeded : (m : List ℕ) (n : ℕ) (v : List ℕ) → Sound m → Settable m n v → Dec (place n ≡ commit) → SetThen m n v 0
-unfolding settle permitted stored
+set-succeeded : (m : List ℕ) (n : ℕ) (v : List ℕ) → Sound m → Settable m n v → Dec (place n ≡ commit)
+    → SetThen m n v (store m (place n) (stored m (place n) v))
+unfolding permitted stored
 set-succeeded m n v S t (yes p) =
     let c : commits m v ≡ true = simp (eq-eqb _ _ p) at (t .allowed) in
     let h : permits (rowAt commit) (block m) ≡ true = simp p at (stored-permitted m (place n) v (t .allowed) .0) in
@@ -130,23 +130,21 @@ set-succeeded m n v S t (no ne) =
     let h = permits-most (rowAt (place n)) _ (stored-permitted m (place n) v (t .allowed) .0) in
     inl (store-same m (place n) (stored m (place n) v) S (listed-place n (t .isListed)) h ne)
 
-set-running : (m : List ℕ) (n : ℕ) (v : List ℕ) → Sound m → SetThen m n v (firstFailed (setChecks m n v))
-unfolding settle
-set-running m n v S = go (firstFailed (setChecks m n v)) refl
-  where
-    go : (c : ℕ) → firstFailed (setChecks m n v) ≡ c → SetThen m n v c
-    go zero e = set-succeeded m n v S (settable m n v e) (ℕ-discrete (place n) commit)
-    go (suc c) e = inl (same-running m)
+set-running : (m : List ℕ) (n : ℕ) (v : List ℕ) → Sound m → SetThen m n v (setMemory m n v)
+set-running m n v S =
+    set-either m n v (SetThen m n v)
+    (λ e. set-succeeded m n v S (settable m n v e) (ℕ-discrete (place n) commit))
+    (inl (same-running m))
 
 -- no other operation touches it
 pub step-running : (m : List ℕ) (o : Op) → sound m ≡ true
     → SameRunning m (step m o) ⊎ ((v : List ℕ) × (o ≡ set 0x8001 v) × Commits m v × Runs (step m o) (block m))
-unfolding step setMemory subscribeMemory unsubscribeMemory
+unfolding step subscribeMemory unsubscribeMemory
 step-running m capabilities s = inl (same-running m)
 step-running m (read n) s = inl (same-running m)
 step-running m (set n v) s = go (set-running m n v (opened m s))
   where
-    go : SetThen m n v (firstFailed (setChecks m n v))
+    go : SetThen m n v (setMemory m n v)
         → SameRunning m (setMemory m n v) ⊎ ((w : List ℕ) × (set n v ≡ set 0x8001 w) × Commits m w × Runs (setMemory m n v) (block m))
     go (inl k) = inl k
     go (inr k) = inr (v, ap (λ (i : ℕ). set i v) (k .0), k .1, k .2)
@@ -159,17 +157,14 @@ step-running m (unsubscribe n) s =
 commit-passes : (m v : List ℕ) → Sound m → Commits m v → firstFailed (setChecks m 0x8001 v) ≡ 0
 unfolding setChecks permitted
 commit-passes m v S c =
-    rw (commit-listed .0)
-    (first-pass 0x01 _ _ (commit-listed .1)
-    (first-pass 0x6F _ _ (commit-listed .2)
-    (first-pass 0x02 _ passed (spelt-commits m v S c) all-passed)))
+    all-passing (setChecks m 0x8001 v) (rw (commit-listed .0) (commit-listed .1, (commit-listed .2, (spelt-commits m v S c, tt))))
 
 pub commit-runs : (m v : List ℕ) → sound m ≡ true → Commits m v → Runs (step m (set 0x8001 v)) (block m)
-unfolding step setMemory settle stored permitted
+unfolding step stored permitted
 commit-runs m v s c =
     let S = opened m s in
     let h : permits (rowAt commit) (block m) ≡ true = stored-permitted m commit v (spelt-commits m v S c) .0 in
-    rw (commit-passes m v S c, commit-listed .0) (store-runs m (block m) S (permits-most (rowAt commit) (block m) h))
+    rw (set-stores m 0x8001 v (commit-passes m v S c), commit-listed .0) (store-runs m (block m) S (permits-most (rowAt commit) (block m) h))
 
 pub commit-answered : (m v : List ℕ) → sound m ≡ true → Commits m v → answer m (set 0x8001 v) ≡ update 0x8001 v
 unfolding answer setAnswer settle
@@ -197,17 +192,11 @@ running-after m (o ∷ os) s = run-one m o os (step-running m o s) (running-afte
 -- a message: unless it is a command that is carried out, nothing
 pub message-running : (m s room : List ℕ) → sound m ≡ true
     → SameRunning m (message m s room .memory) ⊎ ((message m s room .memory ≡ after m (opsOf s)) × RunningBy m (opsOf s))
-unfolding message deed carriedOut acknowledged
+unfolding message
 message-running m s room h =
-    call-memory (λ n. SameRunning m n ⊎ ((n ≡ after m (opsOf s)) × RunningBy m (opsOf s))) (messageChecks m s (length room)) _ m room
-    (inl (same-running m))
-    (λ e. go (isCommand s))
-  where
-    go : (b : Bool)
-        → SameRunning m (cond b (carriedOut m (opsOf s)) (acknowledged m) .memory)
-        ⊎ ((cond b (carriedOut m (opsOf s)) (acknowledged m) .memory ≡ after m (opsOf s)) × RunningBy m (opsOf s))
-    go true = inr (refl, running-after m (opsOf s) h)
-    go false = inl (clock-same m 0 0 (opened m h))
+    let P : List ℕ → Type 0 = λ m′. SameRunning m m′ ⊎ ((m′ ≡ after m (opsOf s)) × RunningBy m (opsOf s)) in
+    call-memory P (messageChecks m s (length room)) _ m room (inl (same-running m))
+    (λ e. deed-either P m s (inr (refl, running-after m (opsOf s) h)) (inl (clock-same m 0 0 (opened m h))))
 
 local-same : (m : List ℕ) (n : ℕ) (v : List ℕ) → Sound m → Local n v → SameRunning m (localMemory m (place n) v)
 unfolding localMemory

@@ -1,5 +1,5 @@
 -- An unacknowledged notification is sent five times, by its build and by four expiries, whatever other calls come between.
-use Prim.Native.Nat.{ℕ, zero, suc, _+_, _≤_, _<_}
+use Prim.Native.Nat.{ℕ, _+_, _≤_, _<_}
 use native.Mathlib.Omega.{arith}
 use native.Mathlib.Decide.{decLe}
 use mathlib.Core.Path.{_≡_, refl, sym, _∙_}
@@ -9,17 +9,17 @@ use mathlib.Core.List.{List, [], _∷_, _++_}
 use lib.ListN.{length}
 use lib.Dec.{eqb}
 use Rattle.meaning.specs.Octets.{nonempty, zeros}
-use Rattle.meaning.specs.Checks.{Checks, firstFailed, settle}
 use Rattle.meaning.specs.Table.{rowAt, place, listed}
 use Rattle.meaning.specs.Memory.{clock, waiting, expiries, cell, size, present, subscribed, pending, flags, store, remark, sound, fresh}
 use Rattle.meaning.specs.Operation.{Op, capabilities, read, set, subscribe, unsubscribe}
-use Rattle.meaning.specs.Step.{stored, setChecks, setMemory, subscribeMemory, unsubscribeMemory, step, after}
+use Rattle.meaning.specs.Step.{stored, setMemory, subscribeMemory, unsubscribeMemory, step, after}
 use Rattle.meaning.specs.Calls.{Outcome, told, call, isCommand, isAcknowledgement, carriedOut, opsOf, messageChecks, message, differs, localMemory, localChecks, localValue, buildChecks, build, expiry, makeFresh}
 use Rattle.meaning.proofs.All.{all}
 use Rattle.meaning.proofs.Tests.{and-left, and-right, denied, first-passed}
 use Rattle.meaning.proofs.Places.{listed-place, clock-putCell, clock-put}
+use Rattle.meaning.proofs.Settled.{call-done, call-memory, call-passed, set-either}
 use Rattle.meaning.proofs.Sound.{opened}
-use Rattle.meaning.proofs.Kept.{permits-most, stored-permitted, settable, step-sound, call-memory, Local, local-opened, local-held, message-sound, localValue-sound, build-sound, expiry-sound}
+use Rattle.meaning.proofs.Kept.{permits-most, stored-permitted, settable, step-sound, Local, local-opened, local-held, message-sound, localValue-sound, build-sound, expiry-sound}
 use Rattle.meaning.proofs.Accepted.{message-passed, deed-command}
 use Rattle.meaning.proofs.Numbers.{build-10, build-11}
 use Rattle.meaning.proofs.Timer.{Clock, expiry-again, expiry-given-up, again-clock, given-up-clock, build-leaves}
@@ -104,17 +104,16 @@ pub record Waits (m : List ℕ) (n : ℕ) : Type 0 where
 -- ---- the timer's octets are left alone by every operation and every local value
 
 set-clock : (m : List ℕ) (n : ℕ) (v : List ℕ) → sound m ≡ true → clock (setMemory m n v) ≡ clock m
-unfolding setMemory settle store
-set-clock m n v s = go (firstFailed (setChecks m n v)) refl
-  where
-    go : (k : ℕ) → firstFailed (setChecks m n v) ≡ k → clock (settle k (store m (place n) (stored m (place n) v)) (λ _. m)) ≡ clock m
-    go zero e =
-        let t = settable m n v e in
-        let k = place n in
-        let w = stored m k v in
-        clock-put m k (flags true (subscribed m k) (pending m k)) w (opened m s .long) (listed-place n (t .isListed))
-        (permits-most (rowAt k) w (stored-permitted m k v (t .allowed) .0))
-    go (suc k) e = refl
+unfolding store
+set-clock m n v s =
+    set-either m n v (λ m′. clock m′ ≡ clock m)
+    (λ e.
+    let t = settable m n v e in
+    let k = place n in
+    let w = stored m k v in
+    clock-put m k (flags true (subscribed m k) (pending m k)) w (opened m s .long) (listed-place n (t .isListed))
+    (permits-most (rowAt k) w (stored-permitted m k v (t .allowed) .0)))
+    refl
 
 remark-clock : (m : List ℕ) (n : ℕ) (s q : Bool) → sound m ≡ true → clock (cond (listed n) (remark m (place n) s q) m) ≡ clock m
 unfolding remark
@@ -248,22 +247,13 @@ waits-on m n (c ∷ cs) w u h =
 
 -- ---- a notification that is built and not acknowledged
 
--- number 0 comes of checks that pass
-call-passed : (cs : Checks) (o : Outcome) (m room : List ℕ) → call cs o m room .number ≡ 0 → firstFailed cs ≡ 0
-unfolding call settle
-call-passed cs o m room e = go (firstFailed cs) refl e
-  where
-    go : (k : ℕ) → firstFailed cs ≡ k → settle k o (λ n. told n m room) .number ≡ 0 → firstFailed cs ≡ 0
-    go zero h z = h
-    go (suc k) h z = absurd (omega arith)
-
 -- a build that is done leaves a notification that waits
 pub built-waits : (m room : List ℕ) → build m room .number ≡ 0 → Waits (build m room .memory) 0
-unfolding build call settle buildChecks
+unfolding build buildChecks
 built-waits m room e =
     let f = call-passed (buildChecks m (length room)) _ m room e in
     let s : sound m ≡ true = first-passed 0 _ _ f .0 in
-    record { isSound = build-sound m room s; clock = rw f (build-leaves m s .clock) }
+    record { isSound = build-sound m room s; clock = rw (call-done (buildChecks m (length room)) _ m room f) (build-leaves m s .clock) }
 
 -- calls in two parts
 after-append : (m : List ℕ) (cs ds : List Call) → afterCalls m (cs ++ ds) ≡ afterCalls (afterCalls m cs) ds

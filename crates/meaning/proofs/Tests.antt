@@ -117,10 +117,21 @@ unfolding firstFailed
 first-passed n true cs e = (refl, e)
 first-passed n false cs e = absurd (omega arith)
 
-pub first-pass : (n : ℕ) (b : Bool) (cs : Checks) → b ≡ true → firstFailed cs ≡ 0 → firstFailed (check n b cs) ≡ 0
+pub first-fails : (n : ℕ) (b : Bool) (cs : Checks) → b ≡ false → firstFailed (check n b cs) ≡ n
 unfolding firstFailed
-first-pass n b cs e f = rw e f
+first-fails n b cs e = rw e
 
-pub all-passed : firstFailed passed ≡ 0
+pub first-after : (n : ℕ) (b : Bool) (cs : Checks) (k : ℕ) → b ≡ true → firstFailed cs ≡ k → firstFailed (check n b cs) ≡ k
 unfolding firstFailed
-all-passed = refl
+first-after n b cs k e f = rw e f
+
+-- each test passes
+abbrev pub Passing : Checks → Type 0
+Passing passed = Unit {0}
+Passing (check n b cs) = (b ≡ true) × Passing cs
+
+pub all-passing : (cs : Checks) → Passing cs → firstFailed cs ≡ 0
+unfolding firstFailed
+all-passing passed h = refl
+all-passing (check n true cs) h = all-passing cs (h .1)
+all-passing (check n false cs) h = absurd (false≢true (h .0))
