@@ -122,7 +122,7 @@ module _ (b c l r : List ℕ) (hb : length b ≡ 10) (hc : length c ≡ 4) (hr :
       )
 
   -- without what is known of the length and the denominator
-  pub fit-tests : ratioOk r ≡ true → 1 ≤ length l / 7 → length l / 7 ≤ 64
+  fit-tests : ratioOk r ≡ true → 1 ≤ length l / 7 → length l / 7 ≤ 64
       → (timeOk b && (eqb (number c) (length l / 7) && (eqb (length l % 7) 0 && (eachOk (entriesOf l) && leb (intervals (entriesOf l)) (cycle r))))) ≡ formAndFit (joinedBlock b c l r)
   fit-tests d least most =
       alike _ (formAndFit (joinedBlock b c l r))
@@ -143,6 +143,12 @@ module _ (b c l r : List ℕ) (hb : length b ≡ 10) (hc : length c ≡ 4) (hr :
       (λ e.
       let f = fit-opened e in
       and-both (f .time) (and-both (f .held) (and-both (f .whole) (and-both (f .each) (f .fits)))))
+
+  -- the same of what was found of each value
+  pub fit-found : {t e y : Bool} {n s : ℕ} → t ≡ timeOk b → n ≡ number c → e ≡ eachOk (entriesOf l) → s ≡ intervals (entriesOf l) → y ≡ leb s (cycle r)
+      → ratioOk r ≡ true → 1 ≤ length l / 7 → length l / 7 ≤ 64
+      → (t && (eqb n (length l / 7) && (eqb (length l % 7) 0 && (e && y)))) ≡ formAndFit (joinedBlock b c l r)
+  fit-found ft fn fe fs fy d least most = rw (ft, fn, fe, fy, fs) (fit-tests d least most)
 
 -- ---- a block cut into its four values
 

@@ -4,16 +4,16 @@ use native.Mathlib.Omega.{arith}
 use native.Mathlib.Nat.{sub-zero}
 use native.Mathlib.Numerals.{add-one}
 use mathlib.Core.Path.{_≡_, refl, sym, ap}
-use mathlib.Core.Bool.{Bool, true, _&&_, cond, and-true, and-assoc, and-comm}
+use mathlib.Core.Bool.{Bool, true, _&&_, _||_, not, cond, and-true, and-assoc, and-comm}
 use mathlib.Core.List.{List}
 use lib.ListN.{length, take}
 use lib.Seq.{length-take-le}
-use lib.Dec.{eqb}
+use lib.Dec.{eqb, ltb}
 use borrow.Author.Tests.{eq-eqb, leb-true, le-leb}
-use Rattle.meaning.specs.Octets.{every, below}
-use Rattle.meaning.specs.Table.{Row, rowAt, entryCount}
+use Rattle.meaning.specs.Octets.{octet, at16, every, below, implies}
+use Rattle.meaning.specs.Table.{Row, rowAt, byPort, entryCount}
 use Rattle.meaning.specs.Block.{permits}
-use Rattle.meaning.specs.Memory.{cell, room, isPresent, size, entrySound, entriesSound, sound}
+use Rattle.meaning.specs.Memory.{cell, room, isPresent, isSubscribed, isPending, size, entrySound, entriesSound, sound}
 use Rattle.meaning.proofs.Tests.{every-at, below-at}
 use Rattle.soundness.specs.Fields.{cellSound, fieldsSound, fieldsAt, tailAt, allFields, allTails, acrossSound}
 
@@ -40,12 +40,27 @@ entry-parts : (m : List ℕ) (k : ℕ) → entrySound (rowAt k) (cell m k) (room
 unfolding entrySound fieldsAt fieldsSound cellSound tailAt every
 entry-parts m k = simp (and-assoc, and-true)
 
+-- a cell's tests of what was found in it and in its row
+pub cell-found : (r : Row) (c : List ℕ) {i n : ℕ} {q s p : Bool} → i ≡ at16 c 0 → n ≡ r .name → q ≡ isPending c → s ≡ isSubscribed c → p ≡ byPort (r .owner)
+    → (eqb i n && (eqb (octet c 3) 0 && (ltb (octet c 2) 8 && (not q || (s && p))))) ≡ cellSound r c
+unfolding cellSound every implies
+cell-found r c ei en eq es ep = rw (ei, en, eq, es, ep, and-true)
+
 -- what an entry holds, from a value of n octets that is cut from its room
 pub fields-tests : (r : Row) (c s : List ℕ) (n : ℕ) → n ≡ size c → n ≤ length s → length s ≡ r .most
     → (cellSound r c && cond (isPresent c) (permits r (take (n - 0) s)) (eqb (length (take (n - 0) s)) 0)) ≡ fieldsSound r c s
 unfolding fieldsSound every
 fields-tests r c s n e h l =
     rw (sub-zero, length-take-le n s h, sym e, le-leb n (r .most) (omega arith), and-true)
+
+-- entries looked at one after another
+pub first-field : (m : List ℕ) {a : Bool} → a ≡ fieldsAt m 0 → a ≡ below 1 (fieldsAt m)
+unfolding below
+first-field m e = e
+
+pub next-field : (m : List ℕ) (k : ℕ) {a b : Bool} → a ≡ below k (fieldsAt m) → b ≡ fieldsAt m k → (a && b) ≡ below (suc k) (fieldsAt m)
+unfolding below
+next-field m k e f = rw (e, f)
 
 pub sound-parts : (m : List ℕ) → length m ≡ 2100 → (allFields m && (allTails m && acrossSound m)) ≡ sound m
 unfolding sound entriesSound allFields allTails acrossSound every

@@ -1,7 +1,8 @@
 -- `memory::store` meets its contract.
 use Prim.Native.Nat.{ℕ}
-use mathlib.Core.Path.{_≡_, ap, _∙_}
-use mathlib.Core.Bool.{true}
+use mathlib.Core.Path.{_≡_, _∙_}
+use mathlib.Core.Bool.{Bool, true}
+use mathlib.Core.List.{List}
 use borrow.Author.Needs.{needs}
 use Rattle.meaning.specs.Memory.{subscribed, pending, flags, put, store}
 use Rattle.memory.proofs.store.Statement.{statement}
@@ -22,14 +23,20 @@ put-requires c κs = search needs
 same-length : tie.Need-same-length
 same-length c = search needs
 
-returns : tie.Need-returns
+-- an entry put with the marks that were found
+marked : (m : List ℕ) (k : ℕ) (v : List ℕ) {s q : Bool} {f : ℕ} {m′ : List ℕ} → s ≡ subscribed m k → q ≡ pending m k → f ≡ flags true s q
+    → m′ ≡ put m k f v → m′ ≡ store m k v
 unfolding store
+marked m k v e h g w = w ∙ rw (g, e, h)
+
+returns : tie.Need-returns
 returns c =
     let a = c .before .before .before .before .before .before .before .before .before .before .before .args in
-    let m = a .m .now in
-    let f : c .before .before .before .before .flags .result ≡ flags true (subscribed m (a .k)) (pending m (a .k)) =
-    c .before .before .before .before .flags .ensures ∙ rw (c .before .before .before .before .before .before .before .subscribed .ensures, c .before .before .before .before .before .pending .ensures) in
-    c .before .before .put .ensures ∙ ap (λ (x : ℕ). put m (a .k) x (a .v .now)) f
+    marked (a .m .now) (a .k) (a .v .now)
+    (c .before .before .before .before .before .before .before .subscribed .ensures)
+    (c .before .before .before .before .before .pending .ensures)
+    (c .before .before .before .before .flags .ensures)
+    (c .before .before .put .ensures)
 
 pub store-spec : {M : Type 1} → statement M
 store-spec =

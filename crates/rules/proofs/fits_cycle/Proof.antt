@@ -1,9 +1,12 @@
 -- `rules::fits_cycle` meets its contract.
 use native.Mathlib.Omega.{arith}
+use mathlib.Core.Path.{ap}
+use lib.Dec.{leb}
 use borrow.Author.Needs.{needs}
 use borrow.Author.Tests.{leb-true}
 use Rattle.meaning.specs.Octets.{at32}
-use Rattle.meaning.specs.Block.{ratioOk, cycle}
+use Rattle.meaning.specs.Block.{ratioOk}
+use Rattle.rules.proofs.Values.{quotient}
 use Rattle.rules.proofs.fits_cycle.Statement.{statement}
 use Rattle.rules.proofs.fits_cycle.Tie as tie
 
@@ -23,8 +26,9 @@ div-result c =
     omega (arith, leb-true 1 (at32 (s .args .v .now) 4) (s .pre .1), c .get322 .ensures .0)
 
 returns : tie.Need-returns
-unfolding cycle
-returns c = rw (c .before .get32 .ensures .0, c .get322 .ensures .0)
+returns c =
+    let s = c .before .before .before in
+    ap (leb (s .args .sum)) (quotient (s .args .v .now) _ _ (c .before .get32 .ensures .0) (c .get322 .ensures .0))
 
 pub fits-cycle-spec : {M : Type 1} → statement M
 fits-cycle-spec =

@@ -1,4 +1,6 @@
 -- `rules::ratio_ok` meets its contract.
+use mathlib.Core.Path.{ap}
+use lib.Dec.{leb}
 use borrow.Author.Needs.{needs}
 use Rattle.meaning.specs.Block.{ratioOk}
 use Rattle.rules.proofs.ratio_ok.Statement.{statement}
@@ -9,7 +11,7 @@ get32-requires c κs = search needs
 
 returns : tie.Need-returns
 unfolding ratioOk
-returns c = rw (c .get32 .ensures .0)
+returns c = ap (leb 1) (c .get32 .ensures .0)
 
 pub ratio-ok-spec : {M : Type 1} → statement M
 ratio-ok-spec = tie.close (tie.spec get32-requires returns)

@@ -1,4 +1,7 @@
 -- `rules::time_ok` meets its contract.
+use Prim.Native.Nat.{ℕ}
+use mathlib.Core.Path.{ap}
+use lib.Dec.{ltb}
 use borrow.Author.Needs.{needs}
 use Rattle.meaning.specs.Block.{timeOk}
 use Rattle.rules.proofs.time_ok.Statement.{statement}
@@ -9,7 +12,7 @@ get32-requires c κs = search needs
 
 returns : tie.Need-returns
 unfolding timeOk
-returns c = rw (c .get32 .ensures .0)
+returns c = ap (λ (n : ℕ). ltb n 1000000000) (c .get32 .ensures .0)
 
 pub time-ok-spec : {M : Type 1} → statement M
 time-ok-spec = tie.close (tie.spec get32-requires returns)

@@ -4,7 +4,7 @@ use mathlib.Core.Path.{sym, _∙_}
 use mathlib.Core.Bool.{false≢true}
 use borrow.Author.Needs.{needs}
 use Rattle.meaning.proofs.Tests.{not-true, denied, affirmed}
-use Rattle.schedule.proofs.Blocks.{fit-opened, fit-tests}
+use Rattle.schedule.proofs.Blocks.{fit-opened, fit-found}
 use Rattle.schedule.proofs.values_fit.Statement.{statement}
 use Rattle.schedule.proofs.values_fit.Tie as tie
 
@@ -55,8 +55,15 @@ returns-4 c =
     let a = s .args in
     let k = c .before .before .before .before .before in
     let d = sym (k .before .ratio-ok .ensures) ∙ affirmed _ (k .if3 .left) in
-    rw (c .before .before .time-ok .ensures, c .before .before .before .number .ensures .0, c .before .before .before .before .walk .ensures .0, c .before .fits-cycle .ensures, c .before .before .before .before .walk .ensures .1)
-    (fit-tests (a .base .now) (a .count .now) (a .list .now) (a .ratio .now) (s .pre .0) (s .pre .1) (s .pre .2) d (k .before .before .before .if1 .left) (k .before .before .if2 .left))
+    fit-found (a .base .now) (a .count .now) (a .list .now) (a .ratio .now) (s .pre .0) (s .pre .1) (s .pre .2)
+    (c .before .before .time-ok .ensures)
+    (c .before .before .before .number .ensures .0)
+    (c .before .before .before .before .walk .ensures .0)
+    (c .before .before .before .before .walk .ensures .1)
+    (c .before .fits-cycle .ensures)
+    d
+    (k .before .before .before .if1 .left)
+    (k .before .before .if2 .left)
 
 pub values-fit-spec : {M : Type 1} → statement M
 values-fit-spec =

@@ -1,7 +1,7 @@
 -- `soundness::all_fields` meets its contract.
 use borrow.Author.Needs.{needs}
-use Rattle.meaning.specs.Octets.{below}
 use Rattle.soundness.specs.Fields.{allFields}
+use Rattle.soundness.proofs.Entries.{first-field, next-field}
 use Rattle.soundness.proofs.all_fields.Statement.{statement}
 use Rattle.soundness.proofs.all_fields.Tie as tie
 
@@ -63,7 +63,7 @@ fields-at-requires-19 : tie.Need-fields-at-requires-19
 fields-at-requires-19 c κs = search needs
 
 returns : tie.Need-returns
-unfolding allFields below
+unfolding allFields
 returns c =
     let c1 = c .before in
     let c2 = c1 .before in
@@ -83,27 +83,26 @@ returns c =
     let c16 = c15 .before in
     let c17 = c16 .before in
     let c18 = c17 .before in
-    rw (
-      c18 .fields-at .ensures,
-      c17 .fields-at2 .ensures,
-      c16 .fields-at3 .ensures,
-      c15 .fields-at4 .ensures,
-      c14 .fields-at5 .ensures,
-      c13 .fields-at6 .ensures,
-      c12 .fields-at7 .ensures,
-      c11 .fields-at8 .ensures,
-      c10 .fields-at9 .ensures,
-      c9 .fields-at10 .ensures,
-      c8 .fields-at11 .ensures,
-      c7 .fields-at12 .ensures,
-      c6 .fields-at13 .ensures,
-      c5 .fields-at14 .ensures,
-      c4 .fields-at15 .ensures,
-      c3 .fields-at16 .ensures,
-      c2 .fields-at17 .ensures,
-      c1 .fields-at18 .ensures,
-      c .fields-at19 .ensures,
-    )
+    let m = c18 .before .before .args .m .now in
+    let a1 = first-field m (c18 .fields-at .ensures) in
+    let a2 = next-field m 1 a1 (c17 .fields-at2 .ensures) in
+    let a3 = next-field m 2 a2 (c16 .fields-at3 .ensures) in
+    let a4 = next-field m 3 a3 (c15 .fields-at4 .ensures) in
+    let a5 = next-field m 4 a4 (c14 .fields-at5 .ensures) in
+    let a6 = next-field m 5 a5 (c13 .fields-at6 .ensures) in
+    let a7 = next-field m 6 a6 (c12 .fields-at7 .ensures) in
+    let a8 = next-field m 7 a7 (c11 .fields-at8 .ensures) in
+    let a9 = next-field m 8 a8 (c10 .fields-at9 .ensures) in
+    let a10 = next-field m 9 a9 (c9 .fields-at10 .ensures) in
+    let a11 = next-field m 10 a10 (c8 .fields-at11 .ensures) in
+    let a12 = next-field m 11 a11 (c7 .fields-at12 .ensures) in
+    let a13 = next-field m 12 a12 (c6 .fields-at13 .ensures) in
+    let a14 = next-field m 13 a13 (c5 .fields-at14 .ensures) in
+    let a15 = next-field m 14 a14 (c4 .fields-at15 .ensures) in
+    let a16 = next-field m 15 a15 (c3 .fields-at16 .ensures) in
+    let a17 = next-field m 16 a16 (c2 .fields-at17 .ensures) in
+    let a18 = next-field m 17 a17 (c1 .fields-at18 .ensures) in
+    next-field m 18 a18 (c .fields-at19 .ensures)
 
 pub all-fields-spec : {M : Type 1} → statement M
 all-fields-spec =

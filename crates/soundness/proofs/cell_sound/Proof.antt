@@ -1,10 +1,9 @@
 -- `soundness::cell_sound` meets its contract.
-use mathlib.Core.Bool.{and-true}
+use mathlib.Core.Path.{ap, _∙_}
 use borrow.Author.Needs.{needs}
-use Rattle.meaning.specs.Octets.{every, implies}
-use Rattle.meaning.specs.Table.{rowAt}
+use Rattle.meaning.specs.Table.{rowAt, byPort}
 use Rattle.table.proofs.Rows.{name-is, owner-is}
-use Rattle.soundness.specs.Fields.{cellSound}
+use Rattle.soundness.proofs.Entries.{cell-found}
 use Rattle.soundness.proofs.cell_sound.Statement.{statement}
 use Rattle.soundness.proofs.cell_sound.Tie as tie
 
@@ -30,20 +29,16 @@ shared-slice-read-result-2 : tie.Need-shared-slice-read-result-2
 shared-slice-read-result-2 c = search needs
 
 returns : tie.Need-returns
-unfolding cellSound every implies
 returns c =
     let s = c .before .before .before .before .before .before .before .before .before in
     let r = c .before .before .before .before .before .before .before .row-at in
     let x = rowAt (s .args .k) in
-    rw (
-      c .before .before .before .before .before .before .get16 .ensures .0,
-      name-is (r .result) x (r .ensures .0),
-      c .before .before .before .before .is-pending .ensures,
-      c .before .before .before .is-subscribed .ensures,
-      c .before .before .by-port .ensures,
-      owner-is (r .result) x (r .ensures .0),
-      and-true,
-    )
+    cell-found x (s .args .c .now)
+    (c .before .before .before .before .before .before .get16 .ensures .0)
+    (name-is (r .result) x (r .ensures .0))
+    (c .before .before .before .before .is-pending .ensures)
+    (c .before .before .before .is-subscribed .ensures)
+    (c .before .before .by-port .ensures ∙ ap byPort (owner-is (r .result) x (r .ensures .0)))
 
 pub cell-sound-spec : {M : Type 1} → statement M
 cell-sound-spec =
