@@ -61,8 +61,13 @@ module _ (c : tie.After-commit) where
       (c .before .before .before .body .result .now) (c .before .before .room3 .result .now) ≡ block (copy (c .before))
   found = block-found (copy (c .before)) (base-is (c .before)) (count-is (c .before)) (list-is (c .before)) (ratio-is (c .before))
 
+  asked : c .commit .result
+      ≡ agrees (joinedBlock (c .before .before .before .before .before .room .result .now) (c .before .before .before .before .room2 .result .now)
+      (c .before .before .before .body .result .now) (c .before .before .room3 .result .now)) sent
+  asked = c .commit .ensures .0
+
   tested : c .commit .result ≡ commits (copy (c .before)) sent
-  tested = c .commit .ensures .0 ∙ ap (λ (b : List ℕ). agrees b sent) found ∙ sym (commit-is (copy (c .before)) sent (four (c .before)))
+  tested = asked ∙ ap (λ (b : List ℕ). agrees b sent) found ∙ sym (commit-is (copy (c .before)) sent (four (c .before)))
 
   size : 22 + length (c .before .before .before .body .result .now) ≡ length (block (copy (c .before)))
   size = omega (arith, block-length (copy (c .before)) (lengths (c .before)), ap length (c .before .before .before .body .ensures))

@@ -36,6 +36,10 @@ next-fits c =
     let k = c .before .before .before .shared-slice-known in
     omega (arith, next-is c, read-fits (octets c) (l .inv .0) (λ i. omega (arith, k .given i)) (l .i - 1))
 
+-- the octet that a turn reads
+read : (c : tie.After-wide Inv-loop μ-loop) → c .wide .result ≡ getD (octets (c .before .before)) (c .before .before .before .loop .i - 1) 0
+read c = c .wide .ensures .0
+
 returns : tie.Need-returns Inv-loop μ-loop
 unfolding storedIn
 returns c = simp (ne-eqb _ 8 (c .if1 .taken))
@@ -57,13 +61,13 @@ wide-requires : tie.Need-wide-requires Inv-loop μ-loop
 wide-requires c κs = search needs
 
 add-u : tie.Need-add-u Inv-loop μ-loop
-add-u c = omega (arith, next-fits (c .before .before), c .wide .ensures)
+add-u c = omega (arith, next-fits (c .before .before), read c)
 
 loop-less : tie.Need-loop-less Inv-loop μ-loop
 loop-less c = search needs
 
 loop-again : tie.Need-loop-again Inv-loop μ-loop
-loop-again c = (omega arith, omega arith, omega (arith, next-is (c .before .before), c .wide .ensures))
+loop-again c = (omega arith, omega arith, omega (arith, next-is (c .before .before), read c))
 
 returns-2 : tie.Need-returns-2 Inv-loop μ-loop
 unfolding storedIn

@@ -47,7 +47,8 @@ returns-4 : tie.Need-returns-4
 returns-4 c =
     let k = c .before .before .before in
     let a = k .before .before .before .before .before .args in
-    c .permits .ensures ∙ sym (asked (a .name) _ (a .value .now) (k .before .before .before .place-of .ensures) (k .before .before .if1 .left) (owned k ∙ affirmed _ (c .before .before .if2 .left)) (c .before .if3 .left))
+    let p : c .permits .result ≡ permits (rowAt (k .before .before .before .place-of .result)) (a .value .now) = c .permits .ensures in
+    p ∙ sym (asked (a .name) _ (a .value .now) (k .before .before .before .place-of .ensures) (k .before .before .if1 .left) (owned k ∙ affirmed _ (c .before .before .if2 .left)) (c .before .if3 .left))
 
 pub permitted-spec : {M : Type 1} → statement M
 permitted-spec =

@@ -1,4 +1,5 @@
 -- `octets::put16` meets its contract.
+use Prim.Native.Nat.{_/_, _%_}
 use native.Mathlib.Omega.{arith}
 use lib.ListN.{length-set}
 use borrow.Author.Needs.{needs}
@@ -27,7 +28,7 @@ same-length c = search needs
 
 returns : tie.Need-returns
 unfolding be16
-returns c = two-stores _ _ _ _ (c .pre .0)
+returns c = two-stores (c .args .s .now) (c .args .at) (c .args .v / 256 % 256) (c .args .v % 256) (c .pre .0)
 
 pub put16-spec : {M : Type 1} → statement M
 put16-spec =

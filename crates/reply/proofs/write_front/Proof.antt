@@ -3,10 +3,19 @@ use native.Mathlib.Omega.{arith}
 use mathlib.Core.Path.{sym, ap, _∙_}
 use lib.ListN.{length}
 use borrow.Author.Needs.{needs}
+use Rattle.octets.specs.Writing.{Wrote}
 use Rattle.records.proofs.Pieces.{wrote-this}
+use Rattle.reply.specs.Sections.{opening}
 use Rattle.reply.proofs.Parts.{few-values, few-readErrors, few-updates, few-updateErrors, read-small, set-small, long-small, front-values, front-readErrors, front-updates, front-updateErrors, front-longUpdates}
 use Rattle.reply.proofs.write_front.Statement.{statement}
 use Rattle.reply.proofs.write_front.Tie as tie
+
+-- before the values stands the element's opening, with the count of the values
+opened : (c : tie.After-write-opening)
+    → let a = c .before .before .before .before .before .before .before .before .args in
+    Wrote (a .out .now) (a .at) (opening (c .before .before .before .before .before .before .any-read .result) 0x71 (c .before .before .read-octets .result) (a .t .values .count))
+    (c .write-opening .result) (c .write-opening .last .1 .1 .1 .1 .0)
+opened c = c .write-opening .ensures
 
 any-read-requires : tie.Need-any-read-requires
 any-read-requires c κs = search needs
@@ -73,7 +82,7 @@ same-length : tie.Need-same-length
 same-length c = search needs
 
 returns : tie.Need-returns
-returns c = wrote-this _ _ (front-values (c .before .before .before .before .before .before .before .before .before .before .args .t) (c .before .before .before .before .before .before .before .before .before .before .args .kind) (c .before .before .before .before .before .before .before .before .any-read .result) (c .before .before .before .before .read-octets .result) (c .before .before .before .before .before .enum-told .given .1) (c .before .before .before .before .before .before .before .before .any-read .ensures) (c .before .before .before .before .read-octets .ensures .0)) (c .before .before .write-opening .ensures)
+returns c = wrote-this _ _ (front-values (c .before .before .before .before .before .before .before .before .before .before .args .t) (c .before .before .before .before .before .before .before .before .before .before .args .kind) (c .before .before .before .before .before .before .before .before .any-read .result) (c .before .before .before .before .read-octets .result) (c .before .before .before .before .before .enum-told .given .1) (c .before .before .before .before .before .before .before .before .any-read .ensures) (c .before .before .before .before .read-octets .ensures .0)) (opened (c .before .before))
 
 same-length-2 : tie.Need-same-length-2
 same-length-2 c = search needs

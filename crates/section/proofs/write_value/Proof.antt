@@ -6,6 +6,7 @@ use mathlib.Core.List.{List}
 use lib.ListN.{length}
 use borrow.Author.Needs.{needs}
 use Rattle.meaning.specs.Block.{sums}
+use Rattle.meaning.specs.Memory.{body}
 use Rattle.meaning.specs.Step.{shown}
 use Rattle.meaning.specs.Reply.{heldOctets}
 use Rattle.records.proofs.Lengths.{held-length}
@@ -14,11 +15,15 @@ use Rattle.command.proofs.Shown.{shown-value, shown-short, shown-sums}
 use Rattle.section.proofs.write_value.Statement.{statement}
 use Rattle.section.proofs.write_value.Tie as tie
 
+-- the value at the place that is asked for
+found : (c : tie.After-body) → c .body .result .now ≡ body (c .before .before .before .args .m .now) (c .before .before .before .args .k)
+found c = c .body .ensures
+
 -- the sums are what a read of 8001 shows
 sums-shown : (c : tie.After-write-sums) → c .write-sums .last .1 .0 ≡ shown (c .before .before .before .before .before .before .args .m .now) (c .before .before .before .before .before .before .args .k)
 sums-shown c =
     let a = c .before .before .before .before .before .before .args in
-    c .write-sums .ensures ∙ ap sums (c .before .before .before .body .ensures) ∙ sym (shown-sums (a .m .now) (a .k) (c .before .before .if1 .left))
+    c .write-sums .ensures ∙ ap sums (found (c .before .before .before)) ∙ sym (shown-sums (a .m .now) (a .k) (c .before .before .if1 .left))
 
 body-requires : tie.Need-body-requires
 body-requires c κs = search needs
@@ -26,7 +31,7 @@ body-requires c κs = search needs
 write-held-requires : tie.Need-write-held-requires
 write-held-requires c κs =
     let s = c .before .before .before .before .before in
-    let e : c .before .before .body .result .now ≡ shown (s .args .m .now) (s .args .k) = c .before .before .body .ensures ∙ sym (shown-value (s .args .m .now) (s .args .k) (c .before .if1 .taken)) in
+    let e : c .before .before .body .result .now ≡ shown (s .args .m .now) (s .args .k) = found (c .before .before) ∙ sym (shown-value (s .args .m .now) (s .args .k) (c .before .if1 .taken)) in
     (omega (arith, ap length e, s .pre .3, held-length (record { name = s .args .name; value = shown (s .args .m .now) (s .args .k) })), s .pre .2, omega (arith, ap length e, shown-short (s .args .m .now) (s .args .k) (s .pre .1)))
 
 same-length : tie.Need-same-length
@@ -36,7 +41,7 @@ returns : tie.Need-returns
 returns c =
     let a = c .before .before .before .before .before .before .before .before .args in
     let k = c .before .before .before .before in
-    let e : k .before .body .result .now ≡ shown (a .m .now) (a .k) = k .before .body .ensures ∙ sym (shown-value (a .m .now) (a .k) (k .if1 .taken)) in
+    let e : k .before .body .result .now ≡ shown (a .m .now) (a .k) = found (k .before) ∙ sym (shown-value (a .m .now) (a .k) (k .if1 .taken)) in
     let p = c .before .before .write-held .ensures in
     wrote-this (a .out .now) (a .at) (ap (λ (v : List ℕ). heldOctets (record { name = a .name; value = v })) (sym e)) p
 
