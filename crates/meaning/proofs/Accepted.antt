@@ -47,7 +47,12 @@ pub deed-command : (m s : List ℕ) → isCommand s ≡ true → deed m s ≡ ca
 unfolding deed
 deed-command m s e = rw e
 
-right-length : (s : List ℕ) → 1 ≤ lengthField s → 3 + lengthField s ≤ length s → lengthRight s ≡ true
+-- L is there, is not 0 and not past the end
+pub length-right : (s : List ℕ) → lengthRight s ≡ true → (1 ≤ lengthField s) × (3 + lengthField s ≤ length s)
+unfolding lengthRight
+length-right s r = (leb-true _ _ (every-at _ 1 r), leb-true _ _ (every-at _ 2 r))
+
+pub right-length : (s : List ℕ) → 1 ≤ lengthField s → 3 + lengthField s ≤ length s → lengthRight s ≡ true
 unfolding lengthRight every
 right-length s a b = simp (le-leb 3 (length s) (omega arith), le-leb _ _ a, le-leb _ _ b)
 
@@ -104,16 +109,16 @@ accepted-passes m s n os a =
     }
 
 pub passes-accepted : (m s : List ℕ) (n : ℕ) → isCommand s ≡ true → firstFailed (messageChecks m s n) ≡ 0 → Accepted m s n (opsOf s)
-unfolding lengthRight opsOf
+unfolding opsOf
 passes-accepted m s n c e =
     let p = message-passed m s n e in
-    let l = implied (isCommand s) _ (p .lengthIs) c in
+    let l = length-right s (implied (isCommand s) _ (p .lengthIs) c) in
     record {
       isSound = p .isSound;
       command = c;
       long = leb-true _ _ (p .short);
-      nonzero = leb-true _ _ (every-at _ 1 l);
-      inside = leb-true _ _ (every-at _ 2 l);
+      nonzero = l .0;
+      inside = l .1;
       parsed = some-of (parse (operations s)) (implied (isCommand s) _ (p .wellFormed) c);
       fit = fits-opened n m (opsOf s) (ap (fits n) (sym (deed-command m s c)) ∙ p .fit);
     }

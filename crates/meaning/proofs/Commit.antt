@@ -1,12 +1,14 @@
 -- A commit's conditions spelt out: on sound memory the test of a set of 8001 passes exactly if each of them holds.
 use Prim.Native.Nat.{ℕ, _+_, _-_, _*_, _/_, _%_, _≤_, _<_}
+use native.Mathlib.Nat.{le-div-iff-mul-le}
 use native.Mathlib.Omega.{arith}
 use mathlib.Core.Path.{_≡_, refl, sym, ap, _∙_}
+use mathlib.Core.Logic.{_↔_}
 use mathlib.Core.Bool.{true}
 use mathlib.Core.List.{List, [], _∷_, _++_, append-assoc}
 use lib.ListN.{length, take, length-append}
-use lib.Seq.{take-at, drop-at, take-length}
 use lib.Dec.{eqb, leb}
+use lib.Seq.{take-at, drop-at, take-length}
 use borrow.Author.Tests.{leb-true, ltb-true, eqb-true, le-leb, lt-ltb, eq-eqb}
 use Rattle.meaning.specs.Octets.{octet, at32, be16, part, every, same}
 use Rattle.meaning.specs.Table.{rowAt, rows, adminBaseTime, adminControlListLength, adminControlList, adminCycleTime, entryCount}
@@ -210,3 +212,8 @@ module _ (m v : List ℕ) (S : Sound m) where
       let e : v ≡ sums (block m) = c .sumsAgree ∙ sym (sums-plain-value (block m)) in
       let s : same v (sums (block m)) ≡ true = ap (λ (w : List ℕ). same w (sums (block m))) e ∙ same-refl (sums (block m)) in
       simp (f, eq-eqb _ _ (c .fourOctets), spelt-form f c, s)
+
+-- ---- the rounded-down quotient decides as the product would, which may not fit a register
+
+pub quotient-decides : (s n d : ℕ) → 1 ≤ d → (s ≤ n * 1000000000 / d) ↔ (s * d ≤ n * 1000000000)
+quotient-decides s n d h = le-div-iff-mul-le h

@@ -5,8 +5,8 @@ use mathlib.Core.Path.{_≡_, refl, sym, ap, _∙_}
 use mathlib.Core.Bool.{Bool, true, false, _||_, cond, false≢true}
 use mathlib.Core.List.{List, [], _∷_, _++_, append-assoc, append-nil}
 use lib.ListN.{length, take, drop, length-append}
-use lib.Seq.{take-at, drop-at}
 use lib.Dec.{eqb}
+use lib.Seq.{take-at, drop-at}
 use Rattle.meaning.specs.Octets.{octet, at16, be16, flat, nonempty}
 use Rattle.meaning.specs.Reply.{Held, Failed, Records, heldOctets, shortOctets, failedOctets, readContents, longOctets, setContents, allNames, element, anyRead, anySet, complete}
 use Rattle.meaning.proofs.Lists.{Each, at16-be16, at16-second}
@@ -246,3 +246,10 @@ decode-complete r g h =
 -- no two records have one reply
 pub complete-injective : (r s : Records) → Good r → Good s → length (complete r) ≤ 4096 → complete r ≡ complete s → r ≡ s
 complete-injective r s g k h e = sym (decode-complete r g h) ∙ ap decode e ∙ decode-complete s k (rw e at h)
+
+-- ---- the length before the long updates is that of the octets after it
+
+pub long-told : (h : Held) (hs : List Held) → length (flat heldOctets (h ∷ hs)) < 65536
+    → at16 (longOctets (h ∷ hs)) 0 ≡ length (flat heldOctets (h ∷ hs))
+unfolding longOctets
+long-told h hs l = at16-be16 (length (flat heldOctets (h ∷ hs))) (flat heldOctets (h ∷ hs)) l

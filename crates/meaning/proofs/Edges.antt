@@ -35,10 +35,14 @@ abbrev lengths : ℕ → ℕ → ℕ → ℕ → ℕ → List Try
 lengths n a b c d =
     fitting n (zeros a) ∷ fitting n (zeros b) ∷ breaks n (zeros c) ∷ breaks n (zeros d) ∷ []
 
+-- the same where any octets are permitted
+abbrev anyOctets : ℕ → ℕ → ℕ → ℕ → ℕ → List Try
+anyOctets n a b c d = fitting n (replicate b 0xFF) ∷ lengths n a b c d
+
 unfoldable pub tries : List Try
 unfolding entriesWith
 tries =
-    lengths 0x0001 8 8 7 9
+    anyOctets 0x0001 8 8 7 9
     ++ (octetFrom 0x0003 0 1 2
     ++ (fitting 0x0004 (zeros 6 ++ be32 999999999) ∷ breaks 0x0004 (zeros 6 ++ be32 1000000000) ∷ lengths 0x0004 10 10 9 11
     ++ (fitting 0x0005 (be32 64) ∷ breaks 0x0005 (be32 65) ∷ lengths 0x0005 4 4 3 5
@@ -50,16 +54,16 @@ tries =
     ∷ fitting 0x0007 (zeros 4 ++ be32 1)
     ∷ breaks 0x0007 (be32 1 ++ zeros 4)
     ∷ breaks 0x0007 (be32 1 ++ (be32 1 ++ (1 ∷ [])))
-    ∷ lengths 0x0008 4 4 3 5
+    ∷ anyOctets 0x0008 4 4 3 5
     ++ (fitting 0x000B (be32 64) ∷ breaks 0x000B (be32 63) ∷ breaks 0x000B (be32 65) ∷ octetFrom 0x0040 1 4 5
     ++ (breaks 0x0040 (0 ∷ []) ∷ octetFrom 0x0041 1 7 8
-    ++ (breaks 0x0041 (0 ∷ []) ∷ lengths 0x0042 1 255 0 256
+    ++ (breaks 0x0041 (0 ∷ []) ∷ anyOctets 0x0042 1 255 0 256
     ++ (octetFrom 0x0060 1 7 8
-    ++ (breaks 0x0060 (0 ∷ []) ∷ lengths 0x0061 1 255 0 256
+    ++ (breaks 0x0060 (0 ∷ []) ∷ anyOctets 0x0061 1 255 0 256
     ++ (octetFrom 0x00A0 1 7 8
-    ++ (breaks 0x00A0 (0 ∷ []) ∷ lengths 0x00A1 1 255 0 256
+    ++ (breaks 0x00A0 (0 ∷ []) ∷ anyOctets 0x00A1 1 255 0 256
     ++ (octetFrom 0x00A2 1 7 8
-    ++ (breaks 0x00A2 (0 ∷ []) ∷ lengths 0x00A3 1 255 0 256 ++ lengths 0x00A4 2 2 1 3)))))))))))))
+    ++ (breaks 0x00A2 (0 ∷ []) ∷ anyOctets 0x00A3 1 255 0 256 ++ anyOctets 0x00A4 2 2 1 3)))))))))))))
 
 pub edges : map (λ (t : Try). permits (rowAt (place (t .name))) (t .value)) tries ≡ map (λ (t : Try). t .wanted) tries
 unfolding all tries

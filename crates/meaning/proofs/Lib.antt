@@ -3,6 +3,7 @@ pub mod All
 pub mod Lists
 pub mod Tests
 pub mod Places
+pub mod Contents
 pub mod Sound
 pub mod Spelt
 pub mod Settled
@@ -11,6 +12,7 @@ pub mod Marks
 pub mod Sums
 pub mod Commit
 pub mod Running
+pub mod Stored
 pub mod Encode
 pub mod Records
 pub mod Decode

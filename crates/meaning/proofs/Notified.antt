@@ -5,7 +5,7 @@ use mathlib.Core.Path.{_≡_, refl, sym, ap, _∙_}
 use mathlib.Core.Bool.{Bool, true, false, _&&_, not, cond}
 use mathlib.Core.List.{List, [], _∷_, _++_}
 use lib.ListN.{length, drop, length-append}
-use Rattle.meaning.specs.Octets.{be16, flat}
+use Rattle.meaning.specs.Octets.{be16, flat, octet, at16}
 use Rattle.meaning.specs.Table.{rowAt, rows, byPort, entryCount}
 use Rattle.meaning.specs.Memory.{cell, present, pending, body, isPending, isSubscribed, sound}
 use Rattle.meaning.specs.Step.{Answer, value, readError}
@@ -196,3 +196,9 @@ reports-say m (suc k) = go (pending m k) (present m k) (reports-say m k)
 pub notification-says : (m : List ℕ)
     → (decodeNotification (notification m) .values ≡ pendingValues m entryCount) × (decodeNotification (notification m) .readErrors ≡ pendingErrors m entryCount)
 notification-says m = rw (notification-read m) (reports-say m entryCount)
+
+-- ---- its head and its length
+
+pub notification-head : (m : List ℕ) → sound m ≡ true → (octet (notification m) 0 ≡ 3) × (3 + at16 (notification m) 1 ≡ length (notification m))
+unfolding notification be16 at16
+notification-head m s = (refl, omega (arith, notification-most m s))

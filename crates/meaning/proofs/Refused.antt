@@ -8,11 +8,12 @@ use mathlib.Core.Logic.{_≢_, _⊎_, inl, inr}
 use mathlib.Core.Bool.{true, false}
 use mathlib.Core.List.{List, [], _++_}
 use lib.ListN.{length, drop}
+use lib.Dec.{eqb}
 use borrow.Author.Tests.{leb-true}
 use Rattle.meaning.specs.Octets.{octet}
 use Rattle.meaning.specs.Checks.{Checks, passed, check, firstFailed}
 use Rattle.meaning.specs.Table.{entryCount, clockAt, memoryLength}
-use Rattle.meaning.specs.Memory.{setClock, expiries, sound}
+use Rattle.meaning.specs.Memory.{setClock, expiries, sound, fresh}
 use Rattle.meaning.specs.Calls.{Outcome, done, told, call, deed, fits, messageChecks, message, localChecks, localValue, notification, cleared, buildChecks, build, expired, expiryChecks, expiry, makeFresh}
 use Rattle.meaning.proofs.Lists.{octet-part}
 use Rattle.meaning.proofs.Tests.{every-at, first-passed}
@@ -25,44 +26,74 @@ use Rattle.meaning.proofs.Notified.{notification-most}
 
 -- ---- the numbers
 
+-- a number is one of some checks, or 0
+abbrev pub Among : ℕ → Checks → Type 0
+Among n passed = n ≡ 0
+Among n (check k b cs) = (n ≡ k) ⊎ Among n cs
+
+first-among : (cs : Checks) → Among (firstFailed cs) cs
+unfolding firstFailed
+first-among passed = refl
+first-among (check k true cs) = inr (first-among cs)
+first-among (check k false cs) = inl refl
+
+call-among : (cs : Checks) (o : Outcome) (m room : List ℕ) → o .number ≡ 0 → Among (call cs o m room .number) cs
+call-among cs o m room z =
+    call-either (λ r. Among (r .number) cs) cs o m room (λ e. rw (z, sym e) (first-among cs)) (λ f e. rw (sym e) (first-among cs))
+
 -- every number of some checks is at most n
 abbrev AtMost : ℕ → Checks → Type 0
 AtMost n passed = Unit {0}
 AtMost n (check k b cs) = (k ≤ n) × AtMost n cs
 
-first-most : (n : ℕ) (cs : Checks) → AtMost n cs → firstFailed cs ≤ n
-unfolding firstFailed
-first-most n passed h = omega arith
-first-most n (check k true cs) h = first-most n cs (h .1)
-first-most n (check k false cs) h = h .0
+among-most : (n k : ℕ) (cs : Checks) → AtMost n cs → Among k cs → k ≤ n
+among-most n k passed h e = omega arith
+among-most n k (check i b cs) h (inl e) = omega (arith, h .0)
+among-most n k (check i b cs) h (inr a) = among-most n k cs (h .1) a
 
-call-number : (n : ℕ) (cs : Checks) (o : Outcome) (m room : List ℕ) → AtMost n cs → o .number ≤ n → call cs o m room .number ≤ n
-call-number n cs o m room h k =
-    call-either (λ r. r .number ≤ n) cs o m room (λ e. k) (λ f e. omega (arith, e, first-most n cs h))
+first-most : (n : ℕ) (cs : Checks) → AtMost n cs → firstFailed cs ≤ n
+first-most n cs h = among-most n (firstFailed cs) cs h (first-among cs)
 
 pub message-number : (m s room : List ℕ) → message m s room .number ≤ 8
 unfolding message messageChecks
-message-number m s room = call-number 8 _ _ m room (omega arith) (omega arith)
+message-number m s room =
+    let cs = messageChecks m s (length room) in
+    let o = done (deed m s .reply) (deed m s .memory) room in
+    among-most 8 (call cs o m room .number) cs (omega arith) (call-among cs o m room refl)
 
-pub localValue-number : (m : List ℕ) (n : ℕ) (v : List ℕ) → localValue m n v .number ≤ 12
+pub localValue-number : (m : List ℕ) (n : ℕ) (v : List ℕ)
+    → let k = localValue m n v .number in
+    (k ≡ 1) ⊎ ((k ≡ 12) ⊎ (k ≡ 0))
 unfolding localValue localChecks
-localValue-number m n v = call-number 12 _ _ m [] (omega arith) (omega arith)
+localValue-number m n v = call-among (localChecks m n v) _ m [] refl
 
-pub build-number : (m room : List ℕ) → build m room .number ≤ 11
+pub build-number : (m room : List ℕ)
+    → let n = build m room .number in
+    (n ≡ 1) ⊎ ((n ≡ 11) ⊎ ((n ≡ 10) ⊎ ((n ≡ 9) ⊎ (n ≡ 0))))
 unfolding build buildChecks
-build-number m room = call-number 11 _ _ m room (omega arith) (omega arith)
+build-number m room = call-among (buildChecks m (length room)) _ m room refl
 
-pub makeFresh-number : (m : List ℕ) → makeFresh m .number ≤ 1
+pub makeFresh-number : (m : List ℕ)
+    → let n = makeFresh m .number in
+    (n ≡ 1) ⊎ (n ≡ 0)
 unfolding makeFresh
-makeFresh-number m = call-number 1 _ _ m [] (omega arith) (omega arith)
+makeFresh-number m = call-among (check 1 (eqb (length m) memoryLength) passed) (told 0 fresh []) m [] refl
 
--- 20 and 21 are an expiry's alone
-pub expiry-number : (m : List ℕ) → (expiry m .number ≤ 8) ⊎ ((expiry m .number ≡ 20) ⊎ (expiry m .number ≡ 21))
+-- 20 and 21 are an expiry's alone, and it has no 0
+abbrev pub OfExpiry : Outcome → Type 0
+OfExpiry o = (o .number ≡ 1) ⊎ ((o .number ≡ 8) ⊎ ((o .number ≡ 20) ⊎ (o .number ≡ 21)))
+
+pub expiry-number : (m : List ℕ) → OfExpiry (expiry m)
 unfolding expiry expiryChecks
 expiry-number m =
-    call-either (λ o. (o .number ≤ 8) ⊎ ((o .number ≡ 20) ⊎ (o .number ≡ 21))) (expiryChecks m) (expired m) m []
-    (λ e. inr (expired-either (λ o. (o .number ≡ 20) ⊎ (o .number ≡ 21)) m (λ h. inl refl) (inr refl)))
-    (λ f e. inl (omega (arith, e, first-most 8 (expiryChecks m) (omega arith))))
+    call-either OfExpiry (expiryChecks m) (expired m) m []
+    (λ e. inr (inr (expired-either (λ o. (o .number ≡ 20) ⊎ (o .number ≡ 21)) m (λ h. inl refl) (inr refl))))
+    (λ f e. refused f (rw (sym e) (first-among (expiryChecks m))))
+  where
+    refused : (f : ℕ) → Among (suc f) (expiryChecks m) → OfExpiry (told (suc f) m [])
+    refused f (inl e) = inl e
+    refused f (inr (inl e)) = inr (inl e)
+    refused f (inr (inr e)) = absurd (omega arith)
 
 -- ---- a refusal
 
@@ -86,16 +117,20 @@ unfolding message
 message-refused m s room a = refusal (messageChecks m s (length room)) _ m room (inl refl) a (omega (arith, message-number m s room))
 
 pub localValue-refused : (m : List ℕ) (n : ℕ) (v : List ℕ) → 1 ≤ localValue m n v .number → Unchanged (localValue m n v) m []
-unfolding localValue
-localValue-refused m n v a = refusal (localChecks m n v) _ m [] (inl refl) a (omega (arith, localValue-number m n v))
+unfolding localValue localChecks
+localValue-refused m n v a = refusal (localChecks m n v) _ m [] (inl refl) a (among-most 12 _ (localChecks m n v) (omega arith) (localValue-number m n v))
 
 pub build-refused : (m room : List ℕ) → 1 ≤ build m room .number → Unchanged (build m room) m room
-unfolding build
-build-refused m room a = refusal (buildChecks m (length room)) _ m room (inl refl) a (omega (arith, build-number m room))
+unfolding build buildChecks
+build-refused m room a = refusal (buildChecks m (length room)) _ m room (inl refl) a (among-most 12 _ (buildChecks m (length room)) (omega arith) (build-number m room))
 
 pub makeFresh-refused : (m : List ℕ) → 1 ≤ makeFresh m .number → Unchanged (makeFresh m) m []
 unfolding makeFresh
-makeFresh-refused m a = refusal _ _ m [] (inl refl) a (omega (arith, makeFresh-number m))
+makeFresh-refused m a = refusal _ _ m [] (inl refl) a (short (makeFresh-number m))
+  where
+    short : {n : ℕ} → (n ≡ 1) ⊎ (n ≡ 0) → n ≤ 12
+    short (inl e) = omega arith
+    short (inr e) = omega arith
 
 pub expiry-refused : (m : List ℕ) → 1 ≤ expiry m .number → expiry m .number ≤ 12 → Unchanged (expiry m) m []
 unfolding expiry
