@@ -7,8 +7,6 @@ use libc::STDOUT_FILENO;
 ghost use Prim.Native.Nat.{_+_, _≤_};
 ghost use mathlib.Core.Path.{_≡_};
 ghost use lib.ListN.{length};
-ghost use Rattle.meaning.specs.Calls.{message};
-ghost use Rattle.text.specs.Answers.{Answers};
 ghost use Rattle.bridge.specs.Frames.{Batched, Serves};
 
 // Octets of a frame's length.
@@ -34,16 +32,6 @@ enum Served {
     Closed,
 }
 
-// Answers one message: its line written at a place, and the place after it.
-fn answer(memory: &mut [u8], sent: &[u8], room: &mut [u8], out: &mut [u8], at: usize) -> usize
-    requires { ⌜ (length (now room) ≡ 4096) × (at + 8197 ≤ length (now out)) ⌝ }
-    ensures { λ r. ⌜ r ≤ at + 8197 ⌝ }
-    ensures { λ r. ⌜ Answers (message (now (memory .entry)) (now (sent .entry)) (now (room .entry))) (now (out .entry)) at r (now (memory .exit)) (now (room .exit)) (now (out .exit)) ⌝ }
-{
-    let outcome = endpoint::message(memory, sent, room);
-    text::write_outcome(out, at, outcome, room)
-}
-
 // Answers whole frames from a place on, until none is left or lines are due.
 fn answer_frames(
     memory: &mut [u8],
@@ -61,7 +49,7 @@ fn answer_frames(
         let Next::Whole(end) = input::next_piece(held, next, HEAD) else {
             return Batch { from: next, at };
         };
-        at = answer(memory, &held[next + HEAD..end], room, out, at);
+        at = text::answer_message(memory, &held[next + HEAD..end], room, out, at);
         next = end;
     }
     Batch { from: next, at }

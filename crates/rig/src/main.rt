@@ -11,7 +11,7 @@ ghost use mathlib.Core.List.{[]};
 ghost use lib.ListN.{length, take};
 ghost use Rattle.meaning.specs.Memory.{fresh};
 ghost use Rattle.meaning.specs.Delay.{delay};
-ghost use Rattle.meaning.specs.Calls.{message, localValue, build, expiry, makeFresh};
+ghost use Rattle.meaning.specs.Calls.{localValue, build, expiry, makeFresh};
 ghost use Rattle.octets.specs.Writing.{Wrote};
 ghost use Rattle.text.specs.Lines.{octetsLine};
 ghost use Rattle.text.specs.Answers.{Answers};
@@ -95,17 +95,7 @@ fn make_room(room: &mut [u8], asked: usize) -> usize
     n
 }
 
-// ---- the calls, each with its line written at a place; the place after it
-
-// A message taken.
-fn message(memory: &mut [u8], sent: &[u8], room: &mut [u8], out: &mut [u8], at: usize) -> usize
-    requires { ⌜ at + (length (now room) + length (now room) + 5) ≤ length (now out) ⌝ }
-    ensures { λ r. ⌜ r ≤ at + (length (now (room .entry)) + length (now (room .entry)) + 5) ⌝ }
-    ensures { λ r. ⌜ Answers (message (now (memory .entry)) (now (sent .entry)) (now (room .entry))) (now (out .entry)) at r (now (memory .exit)) (now (room .exit)) (now (out .exit)) ⌝ }
-{
-    let outcome = endpoint::message(memory, sent, room);
-    text::write_outcome(out, at, outcome, room)
-}
+// ---- the calls beside a message, each with its line written at a place; the place after it
 
 // A notification built.
 fn build(memory: &mut [u8], room: &mut [u8], out: &mut [u8], at: usize) -> usize
@@ -207,7 +197,7 @@ fn take_record(
         0 => Took::Line(make_fresh(&mut memory[..m], out, at), lent),
         1 => {
             let n = make_room(room, octets::get16(body, 0));
-            let end = message(&mut memory[..m], &body[2..], &mut room[..n], out, at);
+            let end = text::answer_message(&mut memory[..m], &body[2..], &mut room[..n], out, at);
             Took::Line(end, Lent { memory: m, room: n })
         }
         2 => {

@@ -72,30 +72,30 @@ returns c =
     }
 
 -- src/main.rt:56:35
-add-answer : tie.Need-add-answer Inv-loop μ-loop
-add-answer c = search needs
+add-answer-message : tie.Need-add-answer-message Inv-loop μ-loop
+add-answer-message c = search needs
 
 -- src/main.rt:56:29
-sub-answer : tie.Need-sub-answer Inv-loop μ-loop
-sub-answer c =
+sub-answer-message : tie.Need-sub-answer-message Inv-loop μ-loop
+sub-answer-message c =
     let f = found (c .before) in
     omega (arith, f .2, f .3)
 
 -- src/main.rt:56:29
-part-answer-start : tie.Need-part-answer-start Inv-loop μ-loop
-part-answer-start c =
+part-answer-message-start : tie.Need-part-answer-message-start Inv-loop μ-loop
+part-answer-message-start c =
     let f = found (c .before) in
     omega (arith, f .2, f .3)
 
 -- src/main.rt:56:29
-part-answer-end : tie.Need-part-answer-end Inv-loop μ-loop
-part-answer-end c =
+part-answer-message-end : tie.Need-part-answer-message-end Inv-loop μ-loop
+part-answer-message-end c =
     let f = found (c .before) in
     omega (arith, f .2, f .3)
 
 -- src/main.rt:56:9
-answer-requires : tie.Need-answer-requires Inv-loop μ-loop
-answer-requires c κs = search needs
+answer-message-requires : tie.Need-answer-message-requires Inv-loop μ-loop
+answer-message-requires c κs = search needs
 
 -- src/main.rt:52:5
 loop-less : tie.Need-loop-less Inv-loop μ-loop
@@ -106,7 +106,7 @@ loop-less c =
 -- src/main.rt:52:5
 loop-again : tie.Need-loop-again Inv-loop μ-loop
 loop-again c =
-    let a = c .before .before .before .before .before .before .answer in
+    let a = c .before .before .before .before .before .before .answer-message in
     let k = c .before .before .before .before .before .before .before .before .before .before .before in
     let l = k .before .before .before .before .before in
     let s = l .before .before .before .before .before in
@@ -163,11 +163,11 @@ answer-frames-spec =
     same-length-2
     same-length-3
     returns
-    add-answer
-    sub-answer
-    part-answer-start
-    part-answer-end
-    answer-requires
+    add-answer-message
+    sub-answer-message
+    part-answer-message-start
+    part-answer-message-end
+    answer-message-requires
     loop-less
     loop-again
     same-length-4

@@ -42,33 +42,33 @@ get16-requires c κs = message-body (right (c .before .before)) (c .before .matc
 make-room-requires : tie.Need-make-room-requires
 make-room-requires c κs = search needs
 
-slice-relend-prefix-message : tie.Need-slice-relend-prefix-message
-slice-relend-prefix-message c = search needs
+slice-relend-prefix-answer-message : tie.Need-slice-relend-prefix-answer-message
+slice-relend-prefix-answer-message c = search needs
 
-slice-aggregate-message : tie.Need-slice-aggregate-message
-slice-aggregate-message c =
+slice-aggregate-answer-message : tie.Need-slice-aggregate-answer-message
+slice-aggregate-answer-message c =
     let s = c .before .before .before .before .before .before .before .before .before .before .before .before .before in
     sym (length-take-le (s .args .lent .memory) (s .args .memory .now) (omega (arith, s .pre .0, s .pre .2 .0)))
 
-sub-message : tie.Need-sub-message
-sub-message c = message-body (right (c .before .before .before .before .before .before .before)) (c .before .before .before .before .before .before .match .keys2)
+sub-answer-message : tie.Need-sub-answer-message
+sub-answer-message c = message-body (right (c .before .before .before .before .before .before .before)) (c .before .before .before .before .before .before .match .keys2)
 
-part-message-start : tie.Need-part-message-start
-part-message-start c = message-body (right (c .before .before .before .before .before .before .before)) (c .before .before .before .before .before .before .match .keys2)
+part-answer-message-start : tie.Need-part-answer-message-start
+part-answer-message-start c = message-body (right (c .before .before .before .before .before .before .before)) (c .before .before .before .before .before .before .match .keys2)
 
-part-message-end : tie.Need-part-message-end
-part-message-end c = search needs
+part-answer-message-end : tie.Need-part-answer-message-end
+part-answer-message-end c = search needs
 
-slice-relend-prefix-message-2 : tie.Need-slice-relend-prefix-message-2
-slice-relend-prefix-message-2 c = search needs
+slice-relend-prefix-answer-message-2 : tie.Need-slice-relend-prefix-answer-message-2
+slice-relend-prefix-answer-message-2 c = search needs
 
-slice-aggregate-message-2 : tie.Need-slice-aggregate-message-2
-slice-aggregate-message-2 c =
+slice-aggregate-answer-message-2 : tie.Need-slice-aggregate-answer-message-2
+slice-aggregate-answer-message-2 c =
     let r = c .before .before .before .before .before .make-room in
     sym (length-take-le (r .result) (r .last .0) (omega (arith, r .ensures .0, r .kept .0, c .before .before .before .before .before .before .before .before .before .before .before .before .before .before .before .pre .1)))
 
-message-requires : tie.Need-message-requires
-message-requires c κs = omega (arith, slice-aggregate-message-2 (c .before), c .before .before .before .before .before .before .make-room .ensures .0, c .before .before .before .before .before .before .before .before .before .before .before .before .before .before .before .before .pre .3)
+answer-message-requires : tie.Need-answer-message-requires
+answer-message-requires c κs = omega (arith, slice-aggregate-answer-message-2 (c .before), c .before .before .before .before .before .before .make-room .ensures .0, c .before .before .before .before .before .before .before .before .before .before .before .before .before .before .before .before .pre .3)
 
 get16-requires-2 : tie.Need-get16-requires-2
 get16-requires-2 c κs = local-body (right (c .before)) (c .match .keys3)
@@ -162,7 +162,7 @@ same-length-5 c = search needs
 returns-3 : tie.Need-returns-3
 returns-3 c =
     let s = c .before .before .before .before .before .before .before .before .before .before .before .before .before .before .before .before .before .before .before .before .before .before .before in
-    let p = c .before .before .before .before .before .before .message in
+    let p = c .before .before .before .before .before .before .answer-message in
     let r = c .before .before .before .before .before .before .before .before .before .before .before .before .before .make-room in
     let g = c .before .before .before .before .before .before .before .before .before .before .before .before .before .before .get16 in
     let k = c .before .before .before .before .before .before .before .before .before .before .before .before .before .before .before .before in
@@ -253,14 +253,14 @@ take-record-spec =
     make-fresh-requires
     get16-requires
     make-room-requires
-    slice-relend-prefix-message
-    slice-aggregate-message
-    sub-message
-    part-message-start
-    part-message-end
-    slice-relend-prefix-message-2
-    slice-aggregate-message-2
-    message-requires
+    slice-relend-prefix-answer-message
+    slice-aggregate-answer-message
+    sub-answer-message
+    part-answer-message-start
+    part-answer-message-end
+    slice-relend-prefix-answer-message-2
+    slice-aggregate-answer-message-2
+    answer-message-requires
     get16-requires-2
     slice-relend-prefix-local-value
     slice-aggregate-local-value

@@ -1,11 +1,11 @@
--- `bridge::answer` meets its contract.
+-- `text::answer_message` meets its contract.
 use native.Mathlib.Omega.{arith}
 use borrow.Author.Needs.{needs}
 use Rattle.meaning.specs.Calls.{message}
 use Rattle.endpoint.proofs.Told.{message-written}
 use Rattle.text.proofs.Answered.{answer-short, answered}
-use Rattle.bridge.proofs.answer.Statement.{statement}
-use Rattle.bridge.proofs.answer.Tie as tie
+use Rattle.text.proofs.answer_message.Statement.{statement}
+use Rattle.text.proofs.answer_message.Tie as tie
 
 message-requires : tie.Need-message-requires
 message-requires c κs = search needs
@@ -15,7 +15,7 @@ write-outcome-requires c κs =
     let m = c .before .before .before .before .before .before .message in
     let s = c .before .before .before .before .before .before .before .before .before .before .before .before .before in
     let w = message-written (s .args .memory .now) (s .args .sent .now) (s .args .room .now) (m .ensures) in
-    (omega (arith, w .0, m .kept .1 .1 .0), omega (arith, m .kept .1 .1 .0, s .pre .0, s .pre .1))
+    (omega (arith, w .0, m .kept .1 .1 .0), omega (arith, m .kept .1 .1 .0, s .pre))
 
 same-length : tie.Need-same-length
 same-length c = search needs
@@ -32,12 +32,12 @@ returns c =
     let m = c .before .before .before .before .before .before .before .before .before .message in
     let s = c .before .before .before .before .before .before .before .before .before .before .before .before .before .before .before .before in
     let w = message-written (s .args .memory .now) (s .args .sent .now) (s .args .room .now) (m .ensures) in (
-      omega (arith, p .0, answer-short (m .result) (m .last .1 .1 .0) (omega (arith, w .0, m .kept .1 .1 .0)), m .kept .1 .1 .0, s .pre .0),
+      omega (arith, p .0, answer-short (m .result) (m .last .1 .1 .0) (omega (arith, w .0, m .kept .1 .1 .0)), m .kept .1 .1 .0),
       answered (message (s .args .memory .now) (s .args .sent .now) (s .args .room .now)) (s .args .out .now) (s .args .at) (m .ensures) (w .1) p,
     )
 
-pub answer-spec : {M : Type 1} → statement M
-answer-spec =
+pub answer-message-spec : {M : Type 1} → statement M
+answer-message-spec =
     tie.close
     (tie.spec
     message-requires
