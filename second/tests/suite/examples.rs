@@ -3,6 +3,10 @@
 use crate::kit::{command, hex, list, read, schedule, set, sets, Bench, Reply};
 use second::{DelayUnits, Nanoseconds};
 
+/// The names of the table, in its order.
+const NAMES: &str = "0001 0003 0004 0005 0006 0007 0008 000B 0040 0041 0042 0060 0061 \
+                     00A0 00A1 00A2 00A3 00A4 8001";
+
 fn reply_to(message: &str) -> (u8, Vec<u8>) {
     Bench::fresh().send(&hex(message))
 }
@@ -40,9 +44,7 @@ fn example_4_a_subscription() {
 fn example_5_capabilities() {
     let (number, reply) = reply_to("01 0001 01");
     assert_eq!((number, reply.len()), (0, 42));
-    let names = "0001 0003 0004 0005 0006 0007 0008 000B 0040 0041 0042 0060 0061 \
-                 00A0 00A1 00A2 00A3 00A4 8001";
-    assert_eq!(reply, hex(&format!("02 70 0026 {names}")));
+    assert_eq!(reply, hex(&format!("02 70 0026 {NAMES}")));
 }
 
 fn example_schedule(cycle: &str) -> String {
@@ -156,6 +158,47 @@ fn lists_of_36_and_37_entries() {
 }
 
 #[test]
+fn several_long_updates_in_one_reply() {
+    let (first, second) = (list(37, 1), list(38, 2));
+    let mut bench = Bench::fresh();
+    let reply = bench.done(&[set(0x0006, &first), set(0x0006, &second)].concat());
+    // The inner length counts 4 + 259 and 4 + 266 octets, that of the element four more.
+    let front = hex("02 72 0219 00 00 0215 0006 0103");
+    assert_eq!(
+        reply,
+        [front, first, hex("0006 010A"), second.clone()].concat()
+    );
+    let reply = bench.done(&read(0x0006));
+    assert_eq!(
+        reply,
+        [hex("02 71 0110 01 0006 010A"), second, vec![0]].concat()
+    );
+}
+
+#[test]
+fn all_six_kinds_in_one_reply() {
+    let long = list(37, 1);
+    let operations = [
+        vec![1],
+        read(0x0003),
+        read(0x0002),
+        set(0x0003, &[1]),
+        set(0x0002, &[1]),
+        set(0x0006, &long),
+    ];
+    let reply = |gate: &str| {
+        let read = format!("71 000A 01 0003 0001 {gate} 01 0002 01");
+        let set = "72 0112 01 0003 01 01 01 0002 01 0107 0006 0103";
+        let front = hex(&format!("02 70 0026 {NAMES} {read} {set}"));
+        [front, long.clone()].concat()
+    };
+    assert_eq!(Bench::fresh().done(&operations.concat()), reply("00"));
+    // From the last operation to the first, GateEnabled is read after it was set.
+    let turned: Vec<u8> = operations.iter().rev().flatten().copied().collect();
+    assert_eq!(Bench::fresh().done(&turned), reply("01"));
+}
+
+#[test]
 fn a_list_may_be_present_and_empty() {
     let mut bench = Bench::fresh();
     assert_eq!(
@@ -186,9 +229,7 @@ fn whole_schedules_of_every_size() {
 #[test]
 fn fresh_memory_octet_for_octet() {
     let mut expected = vec![0; 2_100];
-    let names = "0001 0003 0004 0005 0006 0007 0008 000B 0040 0041 0042 0060 0061 \
-                 00A0 00A1 00A2 00A3 00A4 8001";
-    for (entry, name) in names.split_whitespace().enumerate() {
+    for (entry, name) in NAMES.split_whitespace().enumerate() {
         expected[6 * entry..6 * entry + 2].copy_from_slice(&hex(name));
     }
     expected[6..12].copy_from_slice(&hex("0003 01 00 0001"));
