@@ -33,6 +33,31 @@ fn only_a_difference_marks_pending() {
 }
 
 #[test]
+fn a_reported_value_made_absent_is_marked_again() {
+    let mut bench = subscribed();
+    assert_eq!(bench.local(TTL, &[0, 1]), 0);
+    assert_eq!(bench.build(), (0, hex("03 0008 01 00A4 0002 0001 00")));
+    assert_eq!(bench.send(&[4]), (0, hex("05")));
+    assert_eq!(flags(&bench, TTL_PLACE), 3);
+    assert_eq!(bench.local(TTL, &[]), 0);
+    assert_eq!(flags(&bench, TTL_PLACE), 6);
+    assert_eq!(bench.build(), (0, hex("03 0005 00 01 00A4 03")));
+    assert_eq!(flags(&bench, TTL_PLACE), 2);
+    assert!(bench.is_sound());
+}
+
+#[test]
+fn a_value_from_before_its_subscription_is_marked_when_made_absent() {
+    let mut bench = Bench::fresh();
+    assert_eq!(bench.local(TTL, &[0, 1]), 0);
+    bench.done(&subscribe(TTL));
+    assert_eq!(flags(&bench, TTL_PLACE), 3);
+    assert_eq!(bench.local(TTL, &[]), 0);
+    assert_eq!(flags(&bench, TTL_PLACE), 6);
+    assert_eq!(bench.build(), (0, hex("03 0005 00 01 00A4 03")));
+}
+
+#[test]
 fn an_equal_value_keeps_an_older_mark() {
     let mut bench = subscribed();
     bench.local(TTL, &[0, 1]);
@@ -136,21 +161,28 @@ fn a_notification_has_all_pending_names_in_table_order() {
 
 #[test]
 fn the_largest_notification() {
-    let mut bench = Bench::fresh();
+    // Each name that the port sets, with a value of its largest length.
     let values = [
-        (0x0001, 8),
-        (0x0008, 4),
-        (0x00A0, 1),
-        (0x00A1, 255),
-        (0x00A2, 1),
-        (0x00A3, 255),
+        (0x0001, vec![0xD1; 8]),
+        (0x0008, vec![0xD8; 4]),
+        (0x00A0, vec![7]),
+        (0x00A1, vec![0xC1; 255]),
+        (0x00A2, vec![1]),
+        (0x00A3, vec![0xC3; 255]),
+        (0x00A4, vec![0xFF; 2]),
     ];
-    for (name, length) in values {
+    let mut bench = Bench::fresh();
+    let mut expected = hex("03 022C 07");
+    for (name, value) in values {
         bench.done(&subscribe(name));
-        assert_eq!(bench.local(name, &vec![1; length]), 0);
+        assert_eq!(bench.local(name, &value), 0);
+        expected.extend(u16::to_be_bytes(name));
+        expected.extend((value.len() as u16).to_be_bytes());
+        expected.extend(value);
     }
-    let (number, notification) = bench.build_into(1_600);
-    assert_eq!((number, notification.len()), (0, 3 + 2 + 6 * 4 + 524));
+    expected.push(0);
+    assert_eq!(expected.len(), 559);
+    assert_eq!(bench.build_into(1_600), (0, expected));
 }
 
 #[test]
