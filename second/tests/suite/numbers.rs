@@ -202,15 +202,46 @@ fn number_11_notification_room() {
 
 #[test]
 fn number_12_local_value() {
-    for name in [
-        0x0003, 0x0004, 0x0006, 0x000B, 0x0040, 0x0061, 0x8001, 0x0000, 0x0002, 0xFFFF,
+    // Each listed name that the port does not set, with a value that its rule permits.
+    for text in [
+        "0003 01",
+        "0004 000000000000 00000000",
+        "0005 00000001",
+        "0006 00 05 FF 00000001",
+        "0007 00000001 00000001",
+        "000B 00000040",
+        "0040 01",
+        "0041 01",
+        "0042 01",
+        "0060 01",
+        "0061 01",
+        "8001 00000000",
     ] {
-        assert_eq!(Bench::fresh().local(name, &[]), 12, "{name:04x}");
-        assert_eq!(Bench::fresh().local(name, &[1]), 12, "{name:04x}");
+        let octets = hex(text);
+        let (name, value) = (u16::from_be_bytes([octets[0], octets[1]]), &octets[2..]);
+        for value in [value, &[], &[1]] {
+            assert_eq!(Bench::fresh().local(name, value), 12, "{text}");
+        }
     }
     assert_eq!(Bench::fresh().local(0x0008, &[0; 3]), 12);
     assert_eq!(Bench::fresh().local(0x00A1, &[0; 256]), 12);
     assert_eq!(Bench::fresh().local(0x00A1, &[0; 65_533]), 12);
+}
+
+#[test]
+fn number_12_for_every_name_but_the_seven_of_the_port() {
+    let by_port = [0x0001, 0x0008, 0x00A0, 0x00A1, 0x00A2, 0x00A3, 0x00A4];
+    let bench = Bench::fresh();
+    for name in by_port {
+        assert_eq!(bench.clone().local(name, &[]), 0, "{name:04x}");
+    }
+    // No value, and values of lengths that the seven have.
+    for name in (0..=u16::MAX).filter(|name| !by_port.contains(name)) {
+        for length in [0, 1, 2, 4, 8] {
+            let number = bench.clone().local(name, &vec![1; length]);
+            assert_eq!(number, 12, "{name:04x} with {length} octets");
+        }
+    }
 }
 
 #[test]
