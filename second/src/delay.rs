@@ -1,4 +1,38 @@
 //! The delay conversion: whole nanoseconds and units of 1/65,536 nanosecond as separate kinds.
+//!
+//! Only the conversion leads from one kind to the other:
+//!
+//! ```
+//! use second::{DelayUnits, Nanoseconds};
+//! fn stored(delay: DelayUnits) -> [u8; 8] {
+//!     delay.octets()
+//! }
+//! assert_eq!(stored(Nanoseconds(1).into()), [0, 0, 1, 0, 0, 0, 0, 0]);
+//! ```
+//!
+//! Nanoseconds are not taken for delay units:
+//!
+//! ```compile_fail,E0308
+//! use second::{DelayUnits, Nanoseconds};
+//! fn stored(delay: DelayUnits) -> [u8; 8] {
+//!     delay.octets()
+//! }
+//! stored(Nanoseconds(1));
+//! ```
+//!
+//! nor delay units for nanoseconds:
+//!
+//! ```compile_fail,E0308
+//! use second::{DelayUnits, Nanoseconds};
+//! let delay: Nanoseconds = DelayUnits(65_536);
+//! ```
+//!
+//! and the two are not compared:
+//!
+//! ```compile_fail,E0308
+//! use second::{DelayUnits, Nanoseconds};
+//! assert!(Nanoseconds(0) == DelayUnits(0));
+//! ```
 
 /// Whole nanoseconds.
 #[derive(Clone, Copy, Debug, PartialEq, Eq)]

@@ -3,6 +3,7 @@
 mod bridge;
 mod compare;
 mod cut_law;
+mod delay;
 mod examples;
 mod gate;
 mod kit;
