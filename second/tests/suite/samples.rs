@@ -24,9 +24,14 @@ fn text(sample: &Path, ending: &str) -> String {
     fs::read_to_string(sample.with_extension(ending)).unwrap()
 }
 
+/// A file of the sample with the given name.
+pub fn named(name: &str, ending: &str) -> String {
+    text(&Path::new(FOLDER).join(name), ending)
+}
+
 /// The frames of a sample. A comment goes from `#` to the end of its line; what is left has to be
 /// digits in pairs, so that any tool reads the same octets, line by line.
-fn frames(sample: &str) -> Vec<u8> {
+pub fn frames(sample: &str) -> Vec<u8> {
     let code = sample.lines().map(|line| line.split('#').next().unwrap());
     let words: Vec<&str> = code.flat_map(str::split_whitespace).collect();
     for word in &words {
@@ -45,7 +50,7 @@ fn promised(sample: &str) -> Vec<&str> {
 #[test]
 fn samples_give_their_lines() {
     let samples = samples("hex");
-    assert!(samples.len() >= 2, "{samples:?}");
+    assert!(samples.len() >= 3, "{samples:?}");
     assert_eq!(samples, self::samples("out"));
     for sample in samples {
         let source = text(&sample, "hex");
@@ -59,6 +64,6 @@ fn samples_give_their_lines() {
 
 #[test]
 fn the_first_sample_is_the_example_of_the_rules() {
-    let sample = text(&Path::new(FOLDER).join("three-frames"), "hex");
+    let sample = named("three-frames", "hex");
     assert_eq!(frames(&sample), hex("0003010003 0006010003020003 0000"));
 }
