@@ -4,6 +4,7 @@ mod bridge;
 mod compare;
 mod cut_law;
 mod delay;
+mod documents;
 mod examples;
 mod gate;
 mod kit;
