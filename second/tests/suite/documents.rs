@@ -122,18 +122,11 @@ fn placed(document: &str) -> (usize, Vec<String>) {
 
 #[test]
 fn names_in_the_documents_stand_where_they_are_placed() {
-    // Rows that have names from before: where one is set right, it goes from here.
-    let (edit, input) = (
-        "head_of_one in crates/bridge/must-fail",
-        "in crates/input/src",
-    );
-    let laws = format!("cut {input}, finish {input}");
-    let trace = format!("{edit}, finish {input}, cut {input}");
-    for (document, least, known) in [("LAWS.md", 300, laws), ("TRACE.md", 1_000, trace)] {
+    for (document, least) in [("LAWS.md", 300), ("TRACE.md", 1_000)] {
         let text = fs::read_to_string(format!("{ROOT}/docs/{document}")).unwrap();
         let (placed, missing) = placed(&text);
         assert!(placed > least, "{placed} names in {document}");
-        assert_eq!(missing.join(", "), known, "{document}");
+        assert!(missing.is_empty(), "{document}: {missing:?}");
     }
 }
 

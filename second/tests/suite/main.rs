@@ -3,7 +3,6 @@
 mod bridge;
 mod compare;
 mod cut_law;
-mod delay;
 mod documents;
 mod examples;
 mod gate;
