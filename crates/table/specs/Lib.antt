@@ -1,2 +1,2 @@
--- What the contracts of `memory` cite beside `meaning`.
+-- What the contracts of `table` cite beside `meaning`.
 pub mod Rows
