@@ -18,7 +18,7 @@ use tally::Count;
 use tally::Tally;
 
 // The head of an element, where it is needed, and the count of its first records.
-fn write_opening(needed: bool, id: u8, n: usize, count: usize, out: &mut [u8], at: usize) -> usize
+fn write_opening(needed: bool, id: u8, n: usize, count: u32, out: &mut [u8], at: usize) -> usize
     requires { ⌜ (needed ≡ true → n < 65536) × (count ≤ 255) × (at + length (opening needed id n count) ≤ length (now out)) ⌝ }
     ensures { λ r. ⌜ Wrote (now (out .entry)) at (opening needed id n count) r (now (out .exit)) ⌝ }
 {
@@ -26,18 +26,18 @@ fn write_opening(needed: bool, id: u8, n: usize, count: usize, out: &mut [u8], a
         return at;
     }
     let first = records::write_head(out, at, id, n);
-    records::write_count(out, first, count)
+    records::write_count(out, first, count as usize)
 }
 
 // The count of records further on in an element, where it is needed.
-fn write_further(needed: bool, count: usize, out: &mut [u8], at: usize) -> usize
+fn write_further(needed: bool, count: u32, out: &mut [u8], at: usize) -> usize
     requires { ⌜ (count ≤ 255) × (at + length (further needed count) ≤ length (now out)) ⌝ }
     ensures { λ r. ⌜ Wrote (now (out .entry)) at (further needed count) r (now (out .exit)) ⌝ }
 {
     if !needed {
         return at;
     }
-    records::write_count(out, at, count)
+    records::write_count(out, at, count as usize)
 }
 
 // The octets of the long updates, where there are any.
@@ -48,7 +48,7 @@ fn write_longs(longs: Count, out: &mut [u8], at: usize) -> usize
     if longs.count == 0 {
         return at;
     }
-    octets::put16(out, at, longs.octets);
+    octets::put16(out, at, longs.octets as usize);
     at + 2
 }
 
@@ -77,7 +77,7 @@ fn write_front(t: Tally, kind: Kind, out: &mut [u8], at: usize) -> usize
 }
 
 // How many records of a kind there are.
-fn count_of(t: Tally, kind: Kind) -> usize
+fn count_of(t: Tally, kind: Kind) -> u32
     ensures { λ r. ⌜ r ≡ countOf kind t ⌝ }
 {
     match kind {

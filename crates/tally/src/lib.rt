@@ -16,10 +16,10 @@ use command::Answer;
 use operation::Handed;
 use operation::Op;
 
-// The records of a kind: how many, and their octets.
+// The records of a kind: how many, and their octets. Both in four octets, since a tally stands on the stack of a message.
 pub struct Count {
-    pub count: usize,
-    pub octets: usize,
+    pub count: u32,
+    pub octets: u32,
 }
 
 // What a reply will hold.
@@ -39,7 +39,7 @@ fn one_more(c: Count, octets: usize) -> Count
 {
     Count {
         count: c.count + 1,
-        octets: c.octets + octets,
+        octets: c.octets + octets as u32,
     }
 }
 
@@ -150,7 +150,7 @@ pub fn read_octets(t: Tally) -> usize
     requires { ⌜ Below 16777216 t ⌝ }
     ensures { λ r. ⌜ (r ≡ readOctets t) × (r ≤ 67108864) ⌝ }
 {
-    2 + t.values.octets + t.read_errors.octets
+    (2 + t.values.octets + t.read_errors.octets) as usize
 }
 
 // Octets of the contents of element 72: the long updates, with their length, where there are any.
@@ -158,11 +158,11 @@ pub fn set_octets(t: Tally) -> usize
     requires { ⌜ Below 16777216 t ⌝ }
     ensures { λ r. ⌜ (r ≡ setOctets t) × (r ≤ 67108864) ⌝ }
 {
-    let n = 2 + t.updates.octets + t.update_errors.octets;
+    let n = (2 + t.updates.octets + t.update_errors.octets) as usize;
     if t.long_updates.count == 0 {
         return n;
     }
-    n + (2 + t.long_updates.octets)
+    n + (2 + t.long_updates.octets) as usize
 }
 
 // Octets of an element with contents of n octets, where it is needed.

@@ -20,11 +20,14 @@ returns c =
     let a = c .before .before .before .args in
     wrote-none (a .out .now) (a .at) (rw (c .if1 .taken))
 
+cast-put16 : tie.Need-cast-put16
+cast-put16 c = search needs
+
 put16-requires : tie.Need-put16-requires
 unfolding be16
 put16-requires c κs =
-    let s = c .before .before .before .before in
-    (omega (arith, s .pre .1, ap length (some-long (c .before))), s .pre .0 (c .before .if1 .left))
+    let s = c .before .before .before .before .before in
+    (omega (arith, s .pre .1, ap length (some-long (c .before .before))), s .pre .0 (c .before .before .if1 .left))
 
 add-result : tie.Need-add-result
 add-result c = search needs
@@ -34,7 +37,7 @@ same-length c = search needs
 
 returns-2 : tie.Need-returns-2
 unfolding be16
-returns-2 c = wrote-this _ _ (some-long (c .before .before .before .before)) (refl, c .before .before .put16 .ensures)
+returns-2 c = wrote-this _ _ (some-long (c .before .before .before .before .before)) (refl, c .before .before .put16 .ensures)
 
 pub write-longs-spec : {M : Type 1} → statement M
-write-longs-spec = tie.close (tie.spec returns put16-requires add-result same-length returns-2)
+write-longs-spec = tie.close (tie.spec returns cast-put16 put16-requires add-result same-length returns-2)

@@ -12,9 +12,12 @@ add-result c = search needs
 add-result-2 : tie.Need-add-result-2
 add-result-2 c = search needs
 
+cast-result : tie.Need-cast-result
+cast-result c = search needs
+
 returns : tie.Need-returns
 unfolding readOctets
 returns c = (refl, omega (arith, c .before .before .pre .0 .1, c .before .before .pre .1 .1))
 
 pub read-octets-spec : {M : Type 1} → statement M
-read-octets-spec = tie.close (tie.spec add-result add-result-2 returns)
+read-octets-spec = tie.close (tie.spec add-result add-result-2 cast-result returns)

@@ -12,6 +12,9 @@ add-n c = search needs
 add-n-2 : tie.Need-add-n-2
 add-n-2 c = search needs
 
+cast-n : tie.Need-cast-n
+cast-n c = search needs
+
 returns : tie.Need-returns
 unfolding setOctets longOctets
 returns c =
@@ -20,6 +23,9 @@ returns c =
 
 add-result : tie.Need-add-result
 add-result c = search needs
+
+cast-result : tie.Need-cast-result
+cast-result c = search needs
 
 add-result-2 : tie.Need-add-result-2
 add-result-2 c = search needs
@@ -31,4 +37,4 @@ returns-2 c =
     (rw (ne-eqb _ _ (c .before .if1 .left)), omega (arith, s .pre .2 .1, s .pre .3 .1, s .pre .4 .1))
 
 pub set-octets-spec : {M : Type 1} → statement M
-set-octets-spec = tie.close (tie.spec add-n add-n-2 returns add-result add-result-2 returns-2)
+set-octets-spec = tie.close (tie.spec add-n add-n-2 cast-n returns add-result cast-result add-result-2 returns-2)
