@@ -16,7 +16,7 @@ use operation::Op;
 // is set, or a cause; no record. The name and the value of a set are the operation's, so an answer does not say them again.
 pub enum Answer {
     Names,
-    Value(usize),
+    Value(u8),
     ReadError(u8),
     Update,
     UpdateError(u8),
@@ -35,7 +35,7 @@ fn read(m: &[u8], name: usize) -> Answer
     if !memory::present(m, k) {
         return Answer::ReadError(0x03);
     }
-    Answer::Value(k)
+    Answer::Value(k as u8)
 }
 
 // A commit: the running block becomes the block of the four values, where every condition is met. A present value of one

@@ -50,7 +50,7 @@ fn spell(m: &[u8], list: &[u8], op: Op, a: Answer, kind: Kind, out: &mut [u8], a
     let size = operation::size_of(op);
     match kind {
         Kind::Values => match a {
-            Answer::Value(k) => write_value(m, k, name, out, at),
+            Answer::Value(k) => write_value(m, k as usize, name, out, at),
             _ => at,
         },
         Kind::ReadErrors => match a {

@@ -67,7 +67,7 @@ fn add(t: Tally, m: &[u8], op: Op, a: Answer) -> Tally
         }
         Answer::Value(k) => {
             let c = t.values;
-            r.values = one_more(c, 4 + shown_length(m, k));
+            r.values = one_more(c, 4 + shown_length(m, k as usize));
             r
         }
         Answer::ReadError(_) => {

@@ -34,6 +34,9 @@ returns-2 c =
     let p : present (s .args .m .now) (place (s .args .name)) ≡ false = rw (q .ensures) at (sym (c .before .present .ensures) ∙ denied _ (c .if2 .taken)) in
     λ _ _ e. (rw e (sym (read-absent (s .args .m .now) (s .args .name) h p)), tt)
 
+cast-t6 : tie.Need-cast-t6
+cast-t6 c = search needs
+
 returns-3 : tie.Need-returns-3
 unfolding answerOf
 returns-3 c =
@@ -44,4 +47,4 @@ returns-3 c =
     λ _ _ e. (rw e (ap (λ (k : ℕ). value (s .args .name) (shown (s .args .m .now) k)) (q .ensures) ∙ sym (read-value (s .args .m .now) (s .args .name) h p)), c .before .before .if1 .left)
 
 pub read-spec : {M : Type 1} → statement M
-read-spec = tie.close (tie.spec place-of-requires returns present-requires returns-2 returns-3)
+read-spec = tie.close (tie.spec place-of-requires returns present-requires returns-2 cast-t6 returns-3)

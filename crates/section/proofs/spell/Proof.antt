@@ -95,6 +95,9 @@ enum-told c = search needs
 enum-known-a : tie.Need-enum-known-a
 enum-known-a c = search needs
 
+cast-write-value : tie.Need-cast-write-value
+cast-write-value c = search needs
+
 write-value-requires : tie.Need-write-value-requires
 write-value-requires c κs =
     let s = c .before .before .before .before .before .before .before .before .before .before .before .before in
@@ -281,6 +284,7 @@ spell-spec =
     size-of-requires
     enum-told
     enum-known-a
+    cast-write-value
     write-value-requires
     enum-told-2
     enum-known-a-2

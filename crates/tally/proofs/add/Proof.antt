@@ -29,6 +29,9 @@ enum-told c = search needs
 enum-known-a : tie.Need-enum-known-a
 enum-known-a c = search needs
 
+cast-shown-length : tie.Need-cast-shown-length
+cast-shown-length c = search needs
+
 shown-length-requires : tie.Need-shown-length-requires
 shown-length-requires c κs =
     let s = c .before .before .before .before .before in
@@ -123,6 +126,7 @@ add-spec =
     (tie.spec
     enum-told
     enum-known-a
+    cast-shown-length
     shown-length-requires
     add-one-more
     one-more-requires
