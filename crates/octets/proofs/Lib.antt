@@ -1,3 +1,4 @@
 -- Laws of what the functions leave in lent octets.
 pub mod Splices
 pub mod Tails
+pub mod Blanks

@@ -81,17 +81,15 @@ pub fn append(out: &mut [u8], at: usize, src: &[u8]) -> usize
     end
 }
 
-// Whether every octet is 0. It looks at all of them: with no early exit the loop compiles to vector code.
+// Whether every octet is 0: all of them joined by `|`, a load and an operation for 16 octets.
 pub fn is_blank(s: &[u8]) -> bool
     ensures { λ r. ⌜ r ≡ blank (now (s .entry)) ⌝ }
 {
-    let mut ok = true;
+    let mut any: u8 = 0;
     let mut i = 0;
     while i < s.len() {
-        if s[i] != 0 {
-            ok = false;
-        }
+        any = any | s[i];
         i += 1;
     }
-    ok
+    any == 0
 }

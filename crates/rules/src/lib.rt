@@ -5,7 +5,7 @@ ghost use mathlib.Core.Path.{_≡_};
 ghost use mathlib.Core.Bool.{true, _&&_, _||_};
 ghost use lib.ListN.{length};
 ghost use lib.Dec.{eqb, leb};
-ghost use Rattle.meaning.specs.Block.{number, timeOk, entryOk, entriesOf, eachOk, listOk, intervals, ratioOk, cycle};
+ghost use Rattle.meaning.specs.Block.{number, timeOk, interval, entryOk, entriesOf, eachOk, listOk, intervals, ratioOk, cycle};
 
 // What a walk over a control list finds: whether every entry keeps its rule, and the sum of the intervals.
 pub struct Walked {
@@ -61,12 +61,12 @@ pub fn fits_cycle(sum: u64, v: &[u8]) -> bool
     sum <= numerator * 1000000000 / denominator
 }
 
-// One entry of a control list: an operation 0, 1 or 2; the octet 5; an interval that is not 0.
-fn entry_ok(e: &[u8]) -> bool
-    requires { ⌜ length (now e) ≡ 7 ⌝ }
+// One entry of a control list and its interval: an operation 0, 1 or 2; the octet 5; an interval that is not 0.
+fn entry_ok(e: &[u8], d: u64) -> bool
+    requires { ⌜ (length (now e) ≡ 7) × (d ≡ interval (now e)) ⌝ }
     ensures { λ r. ⌜ r ≡ entryOk (now (e .entry)) ⌝ }
 {
-    (e[0] <= 2) & ((e[1] == 5) & (1 <= octets::get32(e, 3)))
+    (e[0] <= 2) & ((e[1] == 5) & (1 <= d))
 }
 
 // The entries of a list, each looked at once and all of them: with no early exit.
@@ -78,12 +78,24 @@ pub fn walk(v: &[u8]) -> Walked
     let mut ok = true;
     let mut sum: u64 = 0;
     let mut k: usize = 0;
-    while k < n {
+    while k + 1 < n {
         let at = k * 7;
         let e = &v[at..at + 7];
-        ok = ok & entry_ok(e);
-        sum += octets::get32(e, 3);
-        k += 1;
+        let f = &v[at + 7..at + 14];
+        let d = octets::get32(e, 3);
+        let g = octets::get32(f, 3);
+        ok = ok & (entry_ok(e, d) & entry_ok(f, g));
+        sum += d + g;
+        k += 2;
+    }
+    if k < n {
+        let at = k * 7;
+        let e = &v[at..at + 7];
+        let d = octets::get32(e, 3);
+        return Walked {
+            ok: ok & entry_ok(e, d),
+            sum: sum + d,
+        };
     }
     Walked { ok, sum }
 }

@@ -10,7 +10,7 @@ use lib.Seq.{drop-cons, take-all, drop-drop}
 use lib.Dec.{eqb, leb}
 use borrow.Author.Tests.{eqb-true, eq-eqb, leb-true, le-leb}
 use Rattle.meaning.specs.Octets.{octet, at16, be16, splice, every, same}
-use Rattle.meaning.specs.Block.{sumsFrom, number, timeOk, entriesOf, eachOk, listOk, intervals, ratioOk, cycle, sumsOf, sums, joinedBlock, formAndFit}
+use Rattle.meaning.specs.Block.{number, timeOk, entriesOf, eachOk, listOk, intervals, ratioOk, cycle, sumsOf, sums, joinedBlock, formAndFit}
 use Rattle.meaning.specs.Memory.{fourPresent}
 use Rattle.meaning.specs.Step.{block, commits}
 use Rattle.meaning.proofs.Lists.{be16-at16}
@@ -47,11 +47,6 @@ four-spelt (a ∷ b ∷ []) h o = absurd (omega (arith, h))
 four-spelt (a ∷ b ∷ c ∷ []) h o = absurd (omega (arith, h))
 four-spelt (a ∷ b ∷ c ∷ d ∷ []) h o = rw (be16-at16 a b (o 0) (o 1), be16-at16 c d (o 2) (o 3))
 four-spelt (a ∷ b ∷ c ∷ d ∷ e ∷ v) h o = absurd (omega (arith, h))
-
--- a turn of the two sums
-pub sums-turn : (s : List ℕ) (i a b : ℕ) → i < length s → sumsFrom ((a + octet s i) % 65536) ((b + (a + octet s i) % 65536) % 65536) (drop (i + 1) s) ≡ sumsFrom a b (drop i s)
-unfolding sumsFrom
-sums-turn s i a b h = rw (drop-cons s i 0 h, add-one)
 
 sums-octets : (b : List ℕ) → sums b ≡ be16 (sumsOf b .first) ++ be16 (sumsOf b .second)
 unfolding sums

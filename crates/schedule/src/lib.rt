@@ -1,12 +1,12 @@
 // Schedules: which value keeps which rule, the two sums over a block, its form and fit, a commit's conditions.
 // A block is the values of 0004, 0005, 0006 and 0007 joined; every answer is that of a definition of `meaning`.
-ghost use Prim.Native.Nat.{_+_, _≤_};
+ghost use Prim.Native.Nat.{_+_, _*_, _%_, _≤_};
 ghost use mathlib.Core.Path.{_≡_};
 ghost use mathlib.Core.Bool.{true, _&&_};
 ghost use lib.ListN.{length};
 ghost use lib.Dec.{eqb};
 ghost use Rattle.meaning.specs.Octets.{splice, same};
-ghost use Rattle.meaning.specs.Block.{sumsOf, sums, joinedBlock, formAndFit, keeps};
+ghost use Rattle.meaning.specs.Block.{sumsFrom, sumsOf, sums, joinedBlock, formAndFit, keeps};
 ghost use Rattle.schedule.specs.Rules.{ruleOf, asked, agrees};
 
 // The rules of the table's rows.
@@ -25,19 +25,41 @@ pub struct Sums {
     pub second: u16,
 }
 
-// The two sums over a block, each wrapping at 65,536.
+// A product modulo 65,536.
+fn times(a: u16, b: u16) -> u16
+    ensures { λ r. ⌜ r ≡ (a * b) % 65536 ⌝ }
+{
+    (a as u32 * b as u32 % 65536) as u16
+}
+
+// The two sums, gone on with over a further part, each wrapping at 65,536. An octet adds to the second sum as often as octets
+// are left with it, so no turn waits for the one before.
+pub fn sums_on(first: u16, second: u16, part: &[u8]) -> Sums
+    ensures { λ r. ⌜ (r .first ≡ sumsFrom first second (now (part .entry)) .first) × (r .second ≡ sumsFrom first second (now (part .entry)) .second) ⌝ }
+{
+    let n = part.len();
+    let mut left = (n % 65536) as u16;
+    let mut a = first;
+    let mut b = std::num::wrapping_add_u16(second, times(first, left));
+    let mut i = 0;
+    while i < n {
+        let x = part[i] as u16;
+        a = std::num::wrapping_add_u16(a, x);
+        b = std::num::wrapping_add_u16(b, times(x, left));
+        left = std::num::wrapping_sub_u16(left, 1);
+        i += 1;
+    }
+    Sums {
+        first: a,
+        second: b,
+    }
+}
+
+// The two sums over a block.
 pub fn sums_of(block: &[u8]) -> Sums
     ensures { λ r. ⌜ (r .first ≡ sumsOf (now (block .entry)) .first) × (r .second ≡ sumsOf (now (block .entry)) .second) ⌝ }
 {
-    let mut first: u16 = 0;
-    let mut second: u16 = 0;
-    let mut i = 0;
-    while i < block.len() {
-        first = std::num::wrapping_add_u16(first, block[i] as u16);
-        second = std::num::wrapping_add_u16(second, first);
-        i += 1;
-    }
-    Sums { first, second }
+    sums_on(0, 0, block)
 }
 
 // Form and fit of the block that four values make.
