@@ -2,3 +2,4 @@
 pub mod Sets
 pub mod Walk
 pub mod Shown
+pub mod Unchanged

@@ -1,7 +1,8 @@
--- The answers of the code's enum as those of `meaning`.
+-- The answers of the code's enum as those of `meaning`, and which of these may come with a changed memory.
 use Prim.Native.Nat.{ℕ, _<_}
 use mathlib.Core.Path.{_≡_}
-use mathlib.Core.List.{List}
+use mathlib.Core.Bool.{Bool, true, false, _||_}
+use mathlib.Core.List.{List, [], _∷_}
 use Rattle.meaning.specs.Octets.{part}
 use Rattle.meaning.specs.Table.{entryCount}
 use Rattle.meaning.specs.Step.{names, value, readError, update, updateError, silent, shown, readAnswer}
@@ -32,3 +33,20 @@ Told Silent = Unit {0}
 -- the answer to a read of a name, whatever the list
 abbrev pub AnswersRead : List ℕ → ℕ → Answer → Type 0
 AnswersRead m n a = (s : List ℕ) (o : Op) → nameOf o ≡ n → (answerOf m s o a ≡ readAnswer m n) × Told a
+
+-- an operation with this answer may have changed memory: a value set, or a mark
+unfoldable pub mayChange : step.Answer → Bool
+mayChange names = false
+mayChange (value n v) = false
+mayChange (readError n c) = false
+mayChange (update n v) = true
+mayChange (updateError n c) = false
+mayChange silent = true
+
+unfoldable pub anyChange : List step.Answer → Bool
+anyChange [] = false
+anyChange (r ∷ rs) = mayChange r || anyChange rs
+
+-- whether an operation answered so may have changed memory, whatever memory, list and operation
+abbrev pub Tells : Answer → Bool → Type 0
+Tells a b = (m s : List ℕ) (o : Op) → b ≡ mayChange (answerOf m s o a)

@@ -9,7 +9,7 @@ ghost use Rattle.meaning.specs.Table.{memoryLength, entryCount, commit};
 ghost use Rattle.meaning.specs.Memory.{sound, store};
 ghost use Rattle.meaning.specs.Step.{block, commits, permitted, setChecks, stored, setMemory, subscribeMemory, unsubscribeMemory, step, answer};
 ghost use Rattle.operation.specs.Handing.{opOf, Inside};
-ghost use Rattle.command.specs.Answers.{answerOf, Told, AnswersRead};
+ghost use Rattle.command.specs.Answers.{answerOf, Told, AnswersRead, Tells};
 use operation::Op;
 
 // An answer to an operation: all names; a value, by its place in the table, or a cause to a read; that the operation's value
@@ -143,5 +143,20 @@ pub fn carry_out(m: &mut [u8], list: &[u8], op: Op) -> Answer
             unsubscribe(m, name);
             Answer::Silent
         }
+    }
+}
+
+// Whether an operation with this answer may have changed memory: a value set, or a mark. Names, reads and refused sets
+// leave it.
+pub fn changes(a: Answer) -> bool
+    ensures { λ r. ⌜ Tells a r ⌝ }
+{
+    match a {
+        Answer::Names => false,
+        Answer::Value(_) => false,
+        Answer::ReadError(_) => false,
+        Answer::Update => true,
+        Answer::UpdateError(_) => false,
+        Answer::Silent => true,
     }
 }

@@ -107,13 +107,14 @@ fn carry_out(memory: &mut [u8], list: &[u8], room: &mut [u8]) -> Outcome
     ensures { λ r. ⌜ Gives (command (now (memory .entry)) (now (list .entry)) (now (room .entry))) r (now (memory .exit)) (now (room .exit)) ⌝ }
 {
     let mut copy = [0u8; 2100];
-    let t = tally::take(memory, list, &mut copy);
+    let taken = tally::take(memory, list, &mut copy);
+    let t = taken.tally;
     let n = tally::reply_length(t);
     if !tally::fits(t, n, room.len()) {
         return Outcome::NoRoom;
     }
-    reply::write(memory, list, t, &mut copy, room);
-    bytes::copy(&copy, memory);
+    reply::write(memory, list, t, taken.changed, &mut copy, room);
+    octets::renew(memory, &copy, taken.changed);
     Outcome::Done(n)
 }
 

@@ -2,3 +2,4 @@
 pub mod Splices
 pub mod Tails
 pub mod Blanks
+pub mod Fills

@@ -1,4 +1,4 @@
--- Splices, one for each way in which octets are written: one store or two, a part lent on, one write after another.
+-- Splices, one for each way in which octets are written: one store or two, a part lent on, one write after another, two apart.
 use Prim.Native.Nat.{ℕ, _+_, _-_, _≤_}
 use native.Mathlib.Nat.{add-zero}
 use native.Mathlib.Omega.{arith}
@@ -6,9 +6,10 @@ use native.Mathlib.Numerals.{add-one}
 use mathlib.Core.Path.{_≡_, refl, sym, ap, _∙_}
 use mathlib.Core.List.{List, [], _∷_, _++_, append-assoc, append-nil}
 use lib.ListN.{length, take, drop, set, length-append, take-append-drop, drop-of-length-le}
-use lib.Seq.{take-at, drop-append-add, drop-drop, length-take-le, take-length, sets-eq}
+use lib.Seq.{take-at, take-append-le, drop-append-le, drop-append-add, drop-drop, length-take-le, take-length, sets-eq}
 use borrow.Rule.Slice.PartMut.{putMid, post-is}
 use Rattle.meaning.specs.Octets.{part, splice}
+use Rattle.meaning.proofs.Lists.{splice-length}
 
 -- as many octets written as there are: nothing is left of the old ones
 pub splice-all : (s v : List ℕ) → length v ≡ length s → splice s 0 v ≡ v
@@ -58,6 +59,36 @@ splice-splice s a b i h =
 -- the same for what two calls leave
 pub then : (s a b : List ℕ) (i p : ℕ) {s₁ s₂ : List ℕ} → i + length a ≤ length s → p ≡ i + length a → s₁ ≡ splice s i a → s₂ ≡ splice s₁ p b → s₂ ≡ splice s i (a ++ b)
 then s a b i p h e e₁ e₂ = rw (e₂, e₁, e) (splice-splice s a b i h)
+
+-- ---- two writes that lie apart
+
+-- a write within the front part leaves the rest
+splice-left : (p q v : List ℕ) (i : ℕ) → i + length v ≤ length p → splice (p ++ q) i v ≡ splice p i v ++ q
+unfolding splice
+splice-left p q v i h =
+    let k : i ≤ length p = omega arith in
+    rw (take-append-le i p q k, drop-append-le (i + length v) p q h) (simp append-assoc)
+
+-- a write behind the front part
+splice-right : (p d w : List ℕ) (j : ℕ) → length p ≡ j → splice (p ++ d) j w ≡ p ++ (w ++ drop (length w) d)
+unfolding splice
+splice-right p d w j l =
+    let e : drop (j + length w) (p ++ d) ≡ drop (length w) d = ap (λ (k : ℕ). drop (k + length w) (p ++ d)) (sym l) ∙ drop-append-add p d (length w) in
+    rw (take-at p d j l, e)
+
+-- two writes that lie apart, in either order
+pub splice-comm : (s v w : List ℕ) (i j : ℕ) → i + length v ≤ j → j + length w ≤ length s → splice (splice s i v) j w ≡ splice (splice s j w) i v
+splice-comm s v w i j h k =
+    let t = take j s in
+    let d = drop j s in
+    let f : length t ≡ j = length-take-le j s (omega arith) in
+    let n : i + length v ≤ length t = omega (arith, f) in
+    let c : t ++ d ≡ s = take-append-drop j s in
+    let a : splice s i v ≡ splice t i v ++ d = ap (λ (l : List ℕ). splice l i v) (sym c) ∙ splice-left t d v i n in
+    let b : splice s j w ≡ t ++ (w ++ drop (length w) d) = ap (λ (l : List ℕ). splice l j w) (sym c) ∙ splice-right t d w j f in
+    rw (a, b) (splice-right (splice t i v) d w j (splice-length t i v n ∙ f) ∙ sym (splice-left t (w ++ drop (length w) d) v i n))
+
+-- ---- parts lent
 
 -- a part as it is lent
 pub part-is : (s : List ℕ) (a n : ℕ) → take (a + n - a) (drop a s) ≡ part s a n

@@ -2,6 +2,7 @@
 // Each function says by a definition of `meaning` what it returns and what every lent octet holds afterwards.
 ghost use Prim.Native.Nat.{_+_, _-_, _≤_, _<_};
 ghost use mathlib.Core.Path.{_≡_};
+ghost use mathlib.Core.Bool.{false};
 ghost use mathlib.Core.List.{_++_};
 ghost use lib.ListN.{length, take};
 ghost use Rattle.meaning.specs.Octets.{at16, at32, be16, be32, splice, zeros, blank};
@@ -69,6 +70,17 @@ pub fn fill(room: &mut [u8], value: &[u8])
 {
     bytes::copy(value, room);
     clear_from(room, value.len());
+}
+
+// Octets made the same as others, of which there are as many; nothing is done where they are the same already.
+pub fn renew(room: &mut [u8], src: &[u8], differ: bool)
+    requires { ⌜ (length (now room) ≡ length (now src)) × (differ ≡ false → now room ≡ now src) ⌝ }
+    ensures { λ _. ⌜ now (room .exit) ≡ now (src .entry) ⌝ }
+{
+    if !differ {
+        return;
+    }
+    bytes::copy(src, room);
 }
 
 // Octets written at a place; the place after them.

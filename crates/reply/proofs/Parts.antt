@@ -22,21 +22,16 @@ use Rattle.tally.specs.declared.Tally.{Tally}
 use Rattle.tally.specs.Tallies as tallies
 use Rattle.tally.specs.Tallies.{tallyOf, readOctets, setOctets, elementLength, replyLength, tallyFits}
 use Rattle.tally.proofs.Lengths.{tally-fits, any-read, any-set, read-octets, set-octets, values-count, readErrors-count, updates-count, updateErrors-count, longUpdates-count, longUpdates-octets}
-use Rattle.section.specs.declared.Kind.{Kind}
-use Rattle.section.specs.declared.Kind.the-variants.{Values, ReadErrors, Updates, UpdateErrors, LongUpdates}
-use Rattle.section.specs.Kinds.{section, recordsOf}
-use Rattle.reply.specs.Sections.{order, countOf, opening, further, longLength, front, piece, Ready, Fitting}
+use Rattle.section.specs.Kinds.{Values, ReadErrors, Updates, UpdateErrors, LongUpdates, order, section, recordsOf}
+use Rattle.reply.specs.Sections.{opening, further, longLength, front, piece, Ready, Fitting}
 
 -- ---- what is asked of a reply
 
-pub copy-long : (m list copy : List ℕ) → Ready m list copy → length copy ≡ 2100
-copy-long m list copy r = ap length (r .3) ∙ long-of _ (after-sound m (orNone (parse list)) (r .0))
+pub copy-long : (m list copy : List ℕ) (changed : Bool) → Ready m list copy changed → length copy ≡ 2100
+copy-long m list copy changed r = ap length (r .3) ∙ long-of _ (after-sound m (orNone (parse list)) (r .0))
 
 pub fits-of : (m list : List ℕ) (t : Tally) (n : ℕ) → Fitting m list t n → Fits n (recordsOf m list)
 fits-of m list t n f = fits-opened n m (orNone (parse list)) (sym (tally-fits n m (orNone (parse list))) ∙ rw (f .0) at (f .2))
-
-pub fitting-same : (m list : List ℕ) (t : Tally) (n k : ℕ) → n ≡ k → Fitting m list t n → Fitting m list t k
-fitting-same m list t n k e f = (f .0, f .1, rw e at (f .2))
 
 -- ---- a tally that fits has small numbers
 
@@ -78,44 +73,6 @@ module _ (n : ℕ) (t : Tally) (f : tallyFits n t ≡ true) where
   long-small h =
       let l : tallies.longOctets (t .«long_updates») ≡ 2 + t .«long_updates» .octets = rw (ne-eqb _ 0 h) refl in
       omega (arith, set-small (unfold tallies.anySet in rw (ne-eqb (t .updates .count + t .«update_errors» .count + t .«long_updates» .count) 0 (λ e. h (omega (arith, e)))) refl), l)
-
--- ---- what stands before the records, kind by kind
-
-module _ (t : Tally) (k : Kind) where
-  pub front-values : (b : Bool) (n : ℕ) → k ≡ Values → b ≡ tallies.anyRead t → n ≡ readOctets t → front k t ≡ opening b 0x71 n (t .values .count)
-  unfolding front
-  front-values b n e f g = rw (e, f, g)
-
-  pub front-readErrors : (b : Bool) → k ≡ ReadErrors → b ≡ tallies.anyRead t → front k t ≡ further b (t .«read_errors» .count)
-  unfolding front
-  front-readErrors b e f = rw (e, f)
-
-  pub front-updates : (b : Bool) (n : ℕ) → k ≡ Updates → b ≡ tallies.anySet t → n ≡ setOctets t → front k t ≡ opening b 0x72 n (t .updates .count)
-  unfolding front
-  front-updates b n e f g = rw (e, f, g)
-
-  pub front-updateErrors : (b : Bool) → k ≡ UpdateErrors → b ≡ tallies.anySet t → front k t ≡ further b (t .«update_errors» .count)
-  unfolding front
-  front-updateErrors b e f = rw (e, f)
-
-  pub front-longUpdates : k ≡ LongUpdates → front k t ≡ longLength (t .«long_updates»)
-  unfolding front
-  front-longUpdates e = rw e
-
--- ---- where there are no records of a kind
-
-none-flat : {A : Type 0} (f : A → List ℕ) (l : List A) → 0 + length l ≡ 0 → flat f l ≡ []
-unfolding flat
-none-flat f [] e = refl
-none-flat f (x ∷ l) e = absurd (omega (arith, e))
-
-pub count-none : (k : Kind) (r : Records) → countOf k (tallyOf r) ≡ 0 → section k r ≡ []
-unfolding section countOf tallyOf tallies.plus tallies.grown
-count-none Values r e = none-flat heldOctets (r .values) e
-count-none ReadErrors r e = none-flat failedOctets (r .readErrors) e
-count-none Updates r e = none-flat shortOctets (r .updates) e
-count-none UpdateErrors r e = none-flat failedOctets (r .updateErrors) e
-count-none LongUpdates r e = none-flat heldOctets (r .longUpdates) e
 
 -- ---- the elements by their pieces
 
@@ -162,40 +119,29 @@ module _ (r : Records) where
   abbrev pub names : List ℕ
   names = element 0x70 (r .capabilities) allNames
 
-  -- the pieces of the kinds from a place of their order on
-  abbrev pub pieces : ℕ → List ℕ
-  pieces i = flat (piece r) (drop i order)
+  -- all pieces
+  abbrev pub pieces : List ℕ
+  pieces = flat (piece r) order
 
-  whole-pieces : complete r ≡ (2 ∷ []) ++ (names ++ pieces 0)
-  unfolding complete flat
+  whole-pieces : complete r ≡ (2 ∷ []) ++ (names ++ pieces)
+  unfolding complete flat order
   whole-pieces =
       rw (read-pieces, set-pieces, append-nil (piece r LongUpdates))
       (ap (λ (w : List ℕ). 2 ∷ names ++ w) (append-assoc (piece r Values) (piece r ReadErrors) (piece r Updates ++ (piece r UpdateErrors ++ piece r LongUpdates))))
 
-  -- the next kind and those after it; none after the fifth
-  pub next-piece : (i : ℕ) (k : Kind) → drop i order ≡ k ∷ drop (i + 1) order → pieces i ≡ piece r k ++ pieces (i + 1)
-  unfolding flat
-  next-piece i k e = ap (flat (piece r)) e
-
-  pub no-piece : (i : ℕ) → i ≤ 5 → 5 ≤ i → pieces i ≡ []
-  unfolding flat
-  no-piece i a b =
-      let e : i ≡ 5 = omega (arith, a, b) in
-      ap pieces e
-
 module _ (r : Records) (out : List ℕ) (room : length (complete r) ≤ length out) where
-  whole-left : Left out 0 (complete r) out 0 ((2 ∷ []) ++ (names r ++ pieces r 0))
+  whole-left : Left out 0 (complete r) out 0 ((2 ∷ []) ++ (names r ++ pieces r))
   whole-left = left-as (whole-pieces r) (left-start out 0 (complete r) (omega (arith, room)))
 
   pub type-fits : 0 + 1 ≤ length out
-  type-fits = first-fits (2 ∷ []) (names r ++ pieces r 0) whole-left
+  type-fits = first-fits (2 ∷ []) (names r ++ pieces r) whole-left
 
   module _ {e₁ : ℕ} {o₁ : List ℕ} (w₁ : Wrote out 0 (2 ∷ []) e₁ o₁) where
-    after-type : Left out 0 (complete r) o₁ e₁ (names r ++ pieces r 0)
-    after-type = left-next (2 ∷ []) (names r ++ pieces r 0) whole-left w₁
+    after-type : Left out 0 (complete r) o₁ e₁ (names r ++ pieces r)
+    after-type = left-next (2 ∷ []) (names r ++ pieces r) whole-left w₁
 
     pub names-fit : e₁ + length (names r) ≤ length o₁
-    names-fit = first-fits (names r) (pieces r 0) after-type
+    names-fit = first-fits (names r) (pieces r) after-type
 
-    pub after-names : {e₂ : ℕ} {o₂ : List ℕ} → Wrote o₁ e₁ (names r) e₂ o₂ → Left out 0 (complete r) o₂ e₂ (pieces r 0)
-    after-names w₂ = left-next (names r) (pieces r 0) after-type w₂
+    pub after-names : {e₂ : ℕ} {o₂ : List ℕ} → Wrote o₁ e₁ (names r) e₂ o₂ → Left out 0 (complete r) o₂ e₂ (pieces r)
+    after-names w₂ = left-next (names r) (pieces r) after-type w₂

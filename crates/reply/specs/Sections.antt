@@ -1,4 +1,4 @@
--- A reply by its kinds of record: how many there are, what stands before them, and what is known where a reply is written.
+-- A reply by its kinds of record: what stands before the records of each, where it begins, and what is known where a reply is written.
 use Prim.Native.Nat.{ℕ, _+_, _≤_}
 use mathlib.Core.Path.{_≡_}
 use mathlib.Core.Bool.{Bool, true, cond}
@@ -8,28 +8,15 @@ use lib.ListN.{length}
 use Rattle.meaning.specs.Octets.{be16}
 use Rattle.meaning.specs.Memory.{sound}
 use Rattle.meaning.specs.Operation.{parse, isSome, orNone}
-use Rattle.meaning.specs.Step.{after}
+use Rattle.meaning.specs.Step.{after, answers}
 use Rattle.meaning.specs.Reply.{Records}
-use Rattle.meaning.specs.Calls.{records}
+use Rattle.command.specs.Answers.{anyChange}
 use Rattle.tally.specs.declared.Count.{Count}
 use Rattle.tally.specs.declared.Tally.{Tally}
 use Rattle.tally.specs.Tallies.{tallyOf, readOctets, setOctets, anyRead, anySet, tallyFits, Below}
-use Rattle.section.specs.declared.Kind.{Kind}
-use Rattle.section.specs.declared.Kind.the-variants.{Values, ReadErrors, Updates, UpdateErrors, LongUpdates}
-use Rattle.section.specs.Kinds.{section, recordsOf}
-
--- the kinds in the order of a reply
-abbrev pub order : List Kind
-order = Values ∷ ReadErrors ∷ Updates ∷ UpdateErrors ∷ LongUpdates ∷ []
+use Rattle.section.specs.Kinds.{Kind, Values, ReadErrors, Updates, UpdateErrors, LongUpdates, section, recordsOf}
 
 -- ---- what stands before a kind's records, by the tally
-
-unfoldable pub countOf : Kind → Tally → ℕ
-countOf Values t = t .values .count
-countOf ReadErrors t = t .«read_errors» .count
-countOf Updates t = t .updates .count
-countOf UpdateErrors t = t .«update_errors» .count
-countOf LongUpdates t = t .«long_updates» .count
 
 -- an element's identifier and length (2), and the count of its first records
 unfoldable pub opening : Bool → ℕ → ℕ → ℕ → List ℕ
@@ -43,22 +30,48 @@ further b count = cond b (count ∷ []) []
 unfoldable pub longLength : Count → List ℕ
 longLength c = cond (eqb (c .count) 0) [] (be16 (c .octets))
 
-unfoldable pub front : Kind → Tally → List ℕ
-front Values t = opening (anyRead t) 0x71 (readOctets t) (t .values .count)
-front ReadErrors t = further (anyRead t) (t .«read_errors» .count)
-front Updates t = opening (anySet t) 0x72 (setOctets t) (t .updates .count)
-front UpdateErrors t = further (anySet t) (t .«update_errors» .count)
-front LongUpdates t = longLength (t .«long_updates»)
+unfoldable pub front : Tally → Kind → List ℕ
+front t Values = opening (anyRead t) 0x71 (readOctets t) (t .values .count)
+front t ReadErrors = further (anyRead t) (t .«read_errors» .count)
+front t Updates = opening (anySet t) 0x72 (setOctets t) (t .updates .count)
+front t UpdateErrors = further (anySet t) (t .«update_errors» .count)
+front t LongUpdates = longLength (t .«long_updates»)
 
 -- a kind's records with what stands before them
 abbrev pub piece : Records → Kind → List ℕ
-piece r k = front k (tallyOf r) ++ section k r
+piece r k = front (tallyOf r) k ++ section k r
+
+-- ---- where it begins
+
+unfoldable pub octetsOf : Tally → Kind → ℕ
+octetsOf t Values = t .values .octets
+octetsOf t ReadErrors = t .«read_errors» .octets
+octetsOf t Updates = t .updates .octets
+octetsOf t UpdateErrors = t .«update_errors» .octets
+octetsOf t LongUpdates = t .«long_updates» .octets
+
+-- the octets of a kind's piece
+abbrev pub span : Tally → Kind → ℕ
+span t k = length (front t k) + octetsOf t k
+
+-- the pieces follow one another from a place on
+unfoldable pub begins : Tally → ℕ → Kind → ℕ
+begins t at Values = at
+begins t at ReadErrors = at + span t Values
+begins t at Updates = at + span t Values + span t ReadErrors
+begins t at UpdateErrors = at + span t Values + span t ReadErrors + span t Updates
+begins t at LongUpdates = at + span t Values + span t ReadErrors + span t Updates + span t UpdateErrors
 
 -- ---- what the code asks
 
--- sound memory, a whole list, and the copy that its operations have left
-abbrev pub Ready : List ℕ → List ℕ → List ℕ → Type 0
-Ready m list copy = (sound m ≡ true) × (isSome (parse list) ≡ true) × (length list ≤ 2048) × (copy ≡ after m (orNone (parse list)))
+-- sound memory, a whole list, the copy that its operations have left, and whether they may have changed it
+abbrev pub Ready : List ℕ → List ℕ → List ℕ → Bool → Type 0
+Ready m list copy changed =
+    (sound m ≡ true)
+    × (isSome (parse list) ≡ true)
+    × (length list ≤ 2048)
+    × (copy ≡ after m (orNone (parse list)))
+    × (changed ≡ anyChange (answers m (orNone (parse list))))
 
 -- the tally is that of the operations, and the reply fits so many octets
 abbrev pub Fitting : List ℕ → List ℕ → Tally → ℕ → Type 0

@@ -1,19 +1,21 @@
-// A reply written once the tally says that all of it fits: the names, then the kinds of record one after another, each
-// behind its head and its count.
+// A reply written once the tally says that all of it fits: the names, what stands before the records of each kind, and
+// then, in one pass over the operations, the records.
 ghost use Prim.Native.Nat.{_+_, _≤_, _<_};
 ghost use mathlib.Core.Path.{_≡_};
 ghost use mathlib.Core.Logic.{_≢_};
 ghost use mathlib.Core.Bool.{true};
-ghost use mathlib.Core.List.{_∷_, _++_};
+ghost use mathlib.Core.List.{_++_};
 ghost use lib.ListN.{length, drop};
 ghost use Rattle.meaning.specs.Operation.{parse, orNone};
 ghost use Rattle.meaning.specs.Step.{after};
 ghost use Rattle.meaning.specs.Reply.{allNames, element, complete};
 ghost use Rattle.octets.specs.Writing.{Wrote};
+ghost use Rattle.octets.specs.Filling.{Apart, Filled};
 ghost use Rattle.tally.specs.Tallies.{tallyFits, Below};
-ghost use Rattle.section.specs.Kinds.{section, recordsOf};
-ghost use Rattle.reply.specs.Sections.{order, countOf, opening, further, longLength, front, piece, Ready, Fitting};
-use section::Kind;
+ghost use Rattle.section.specs.Kinds.{order, recordsOf};
+ghost use Rattle.section.specs.Places.{placeOf};
+ghost use Rattle.reply.specs.Sections.{opening, further, longLength, front, begins, Ready, Fitting};
+use section::Places;
 use tally::Count;
 use tally::Tally;
 
@@ -52,63 +54,32 @@ fn write_longs(longs: Count, out: &mut [u8], at: usize) -> usize
     at + 2
 }
 
-// What stands before the records of a kind.
-fn write_front(t: Tally, kind: Kind, out: &mut [u8], at: usize) -> usize
-    requires { ⌜ Below 16777216 t × (tallyFits (length (now out)) t ≡ true) × (at + length (front kind t) ≤ length (now out)) ⌝ }
-    ensures { λ r. ⌜ Wrote (now (out .entry)) at (front kind t) r (now (out .exit)) ⌝ }
+// What stands before the records of each kind; where the records go. The tally tells how long each section is, and so
+// where the next begins.
+fn write_fronts(t: Tally, out: &mut [u8], at: usize) -> Places
+    requires { ⌜ Below 16777216 t × (tallyFits (length (now out)) t ≡ true) × Apart 0 order (begins t at) (front t) (length (now out)) ⌝ }
+    ensures { λ r. ⌜ Filled order (begins t at) (front t) (now (out .entry)) (placeOf r) (now (out .exit)) ⌝ }
 {
     let reads = tally::any_read(t);
     let sets = tally::any_set(t);
-    match kind {
-        Kind::Values => {
-            let n = tally::read_octets(t);
-            let count = t.values.count;
-            write_opening(reads, 0x71, n, count, out, at)
-        }
-        Kind::ReadErrors => write_further(reads, t.read_errors.count, out, at),
-        Kind::Updates => {
-            let n = tally::set_octets(t);
-            let count = t.updates.count;
-            write_opening(sets, 0x72, n, count, out, at)
-        }
-        Kind::UpdateErrors => write_further(sets, t.update_errors.count, out, at),
-        Kind::LongUpdates => write_longs(t.long_updates, out, at),
+    let n = tally::read_octets(t);
+    let values = write_opening(reads, 0x71, n, t.values.count, out, at);
+    let second = values + t.values.octets as usize;
+    let read_errors = write_further(reads, t.read_errors.count, out, second);
+    let third = read_errors + t.read_errors.octets as usize;
+    let k = tally::set_octets(t);
+    let updates = write_opening(sets, 0x72, k, t.updates.count, out, third);
+    let fourth = updates + t.updates.octets as usize;
+    let update_errors = write_further(sets, t.update_errors.count, out, fourth);
+    let fifth = update_errors + t.update_errors.octets as usize;
+    let long_updates = write_longs(t.long_updates, out, fifth);
+    Places {
+        values,
+        read_errors,
+        updates,
+        update_errors,
+        long_updates,
     }
-}
-
-// How many records of a kind there are.
-fn count_of(t: Tally, kind: Kind) -> u32
-    ensures { λ r. ⌜ r ≡ countOf kind t ⌝ }
-{
-    match kind {
-        Kind::Values => t.values.count,
-        Kind::ReadErrors => t.read_errors.count,
-        Kind::Updates => t.updates.count,
-        Kind::UpdateErrors => t.update_errors.count,
-        Kind::LongUpdates => t.long_updates.count,
-    }
-}
-
-// The records of a kind and what stands before them. The copy is filled anew where there are any.
-fn write_kind(
-    m: &[u8],
-    list: &[u8],
-    t: Tally,
-    kind: Kind,
-    copy: &mut [u8],
-    out: &mut [u8],
-    at: usize,
-) -> usize
-    requires { ⌜ Ready (now m) (now list) (now copy) × Fitting (now m) (now list) t (length (now out)) × (at + length (piece (recordsOf (now m) (now list)) kind) ≤ length (now out)) ⌝ }
-    ensures { λ _. ⌜ now (copy .exit) ≡ after (now (m .entry)) (orNone (parse (now (list .entry)))) ⌝ }
-    ensures { λ r. ⌜ Wrote (now (out .entry)) at (piece (recordsOf (now (m .entry)) (now (list .entry))) kind) r (now (out .exit)) ⌝ }
-{
-    let start = write_front(t, kind, out, at);
-    if count_of(t, kind) == 0 {
-        return start;
-    }
-    bytes::copy(m, copy);
-    section::write(list, kind, copy, out, start)
 }
 
 // Element 70, where the names are asked.
@@ -123,34 +94,17 @@ fn write_capabilities(needed: bool, out: &mut [u8], at: usize) -> usize
     records::write_names(out, first)
 }
 
-// The kinds one after another, as a reply has them.
-fn kind_at(i: usize) -> Kind
-    requires { ⌜ i < 5 ⌝ }
-    ensures { λ r. ⌜ drop i order ≡ r ∷ drop (i + 1) order ⌝ }
-{
-    match i {
-        0 => Kind::Values,
-        1 => Kind::ReadErrors,
-        2 => Kind::Updates,
-        3 => Kind::UpdateErrors,
-        _ => Kind::LongUpdates,
-    }
-}
-
-// The whole reply at the start of a room that it fits. The copy holds afterwards what the operations leave. A loop, so that
-// one place alone writes a kind: the compiler puts it into this function, and a call takes less stack.
-pub fn write(m: &[u8], list: &[u8], t: Tally, copy: &mut [u8], out: &mut [u8])
-    requires { ⌜ Ready (now m) (now list) (now copy) × Fitting (now m) (now list) t (length (now out)) ⌝ }
+// The whole reply at the start of a room that it fits. The copy holds afterwards what the operations leave; it is filled anew
+// where they have changed it.
+pub fn write(m: &[u8], list: &[u8], t: Tally, changed: bool, copy: &mut [u8], out: &mut [u8])
+    requires { ⌜ Ready (now m) (now list) (now copy) changed × Fitting (now m) (now list) t (length (now out)) ⌝ }
     ensures { λ _. ⌜ now (copy .exit) ≡ after (now (m .entry)) (orNone (parse (now (list .entry)))) ⌝ }
     ensures { λ _. ⌜ now (out .exit) ≡ complete (recordsOf (now (m .entry)) (now (list .entry))) ++ drop (length (complete (recordsOf (now (m .entry)) (now (list .entry))))) (now (out .entry)) ⌝ }
 {
     let names = records::write_count(out, 0, 2);
     let capabilities = t.capabilities;
-    let mut at = write_capabilities(capabilities, out, names);
-    let mut i: usize = 0;
-    while i < 5 {
-        let kind = kind_at(i);
-        at = write_kind(m, list, t, kind, copy, out, at);
-        i += 1;
-    }
+    let at = write_capabilities(capabilities, out, names);
+    let starts = write_fronts(t, out, at);
+    octets::renew(copy, m, changed);
+    section::write(list, starts, copy, out);
 }

@@ -5,7 +5,8 @@ ghost use mathlib.Core.Path.{_≡_};
 ghost use mathlib.Core.Bool.{true, _&&_};
 ghost use lib.ListN.{length};
 ghost use lib.Dec.{eqb};
-ghost use Rattle.meaning.specs.Octets.{splice, same};
+ghost use mathlib.Core.List.{_++_};
+ghost use Rattle.meaning.specs.Octets.{be16, splice, same};
 ghost use Rattle.meaning.specs.Block.{sumsFrom, sumsOf, sums, joinedBlock, formAndFit, keeps};
 ghost use Rattle.schedule.specs.Rules.{ruleOf, asked, agrees};
 
@@ -110,11 +111,10 @@ pub fn keeps(rule: Rule, v: &[u8]) -> bool
 }
 
 // A commit's value: first sum, second sum.
-pub fn write_sums(block: &[u8], out: &mut [u8])
+pub fn write_sums(s: Sums, out: &mut [u8])
     requires { ⌜ length (now out) ≡ 4 ⌝ }
-    ensures { λ _. ⌜ now (out .exit) ≡ sums (now (block .entry)) ⌝ }
+    ensures { λ _. ⌜ now (out .exit) ≡ be16 (s .first) ++ be16 (s .second) ⌝ }
 {
-    let s = sums_of(block);
     octets::put16(out, 0, s.first as usize);
     octets::put16(out, 2, s.second as usize);
 }

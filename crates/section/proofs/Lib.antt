@@ -1,3 +1,4 @@
 -- Laws that the proofs of `section` share.
-pub mod Spelling
-pub mod Loop
+pub mod Shares
+pub mod Knows
+pub mod Pass

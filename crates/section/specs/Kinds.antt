@@ -1,12 +1,21 @@
--- The octets of each kind of record.
+-- The kinds of record that a reply holds, and the octets of each.
 use Prim.Native.Nat.{ℕ}
-use mathlib.Core.List.{List}
+use mathlib.Core.List.{List, [], _∷_}
 use Rattle.meaning.specs.Octets.{flat}
 use Rattle.meaning.specs.Operation.{parse, orNone}
 use Rattle.meaning.specs.Reply.{Records, heldOctets, shortOctets, failedOctets}
 use Rattle.meaning.specs.Calls.{records}
-use Rattle.section.specs.declared.Kind.{Kind}
-use Rattle.section.specs.declared.Kind.the-variants.{Values, ReadErrors, Updates, UpdateErrors, LongUpdates}
+
+pub data Kind : Type 0 where
+  Values : Kind
+  ReadErrors : Kind
+  Updates : Kind
+  UpdateErrors : Kind
+  LongUpdates : Kind
+
+-- the kinds in the order of a reply
+unfoldable pub order : List Kind
+order = Values ∷ ReadErrors ∷ Updates ∷ UpdateErrors ∷ LongUpdates ∷ []
 
 -- the octets of the records of a kind
 unfoldable pub section : Kind → Records → List ℕ
@@ -19,3 +28,7 @@ section LongUpdates r = flat heldOctets (r .longUpdates)
 -- the records of a list of operations, carried out on m
 abbrev pub recordsOf : List ℕ → List ℕ → Records
 recordsOf m list = records m (orNone (parse list))
+
+-- the octets of each kind that they come to
+abbrev pub sections : List ℕ → List ℕ → Kind → List ℕ
+sections m list k = section k (recordsOf m list)

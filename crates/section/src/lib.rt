@@ -1,5 +1,5 @@
-// The records of one kind, written one after another: the operations of a list run on the working copy, and what each
-// answers is written where it is of that kind. So no record is kept anywhere but in the room.
+// The records of a reply, each written at the place of its kind: the operations of a list run on the working copy, and what
+// each answers goes behind the records of its kind before it. So no record is kept anywhere but in the room.
 ghost use Prim.Native.Nat.{_+_, _≤_, _<_};
 ghost use mathlib.Core.Path.{_≡_};
 ghost use mathlib.Core.Bool.{true};
@@ -8,95 +8,162 @@ ghost use Rattle.meaning.specs.Table.{memoryLength, entryCount};
 ghost use Rattle.meaning.specs.Memory.{sound};
 ghost use Rattle.meaning.specs.Operation.{parse, isSome, orNone};
 ghost use Rattle.meaning.specs.Step.{shown, after};
-ghost use Rattle.meaning.specs.Reply.{recordOf, heldOctets};
+ghost use Rattle.meaning.specs.Reply.{heldOctets};
 ghost use Rattle.operation.specs.Handing.{Inside};
 ghost use Rattle.octets.specs.Writing.{Wrote};
-ghost use Rattle.command.specs.Answers.{answerOf, Told};
-ghost use Rattle.section.specs.Kinds.{section, recordsOf};
+ghost use Rattle.octets.specs.Filling.{fill, Apart, Filled};
+ghost use Rattle.command.specs.Answers.{Told};
+ghost use Rattle.section.specs.Kinds.{order, sections};
+ghost use Rattle.section.specs.Places.{placeOf, shares};
+ghost use Rattle.section.specs.Knowing.{AreSums, Knows, Keeps};
 use command::Answer;
 use operation::Handed;
 use operation::Op;
+use schedule::Sums;
 
-// The kinds of record that a reply holds, in its order.
-pub enum Kind {
-    Values,
-    ReadErrors,
-    Updates,
-    UpdateErrors,
-    LongUpdates,
+// ---- the running block's sums, which many reads may ask for
+
+// What is known of them.
+pub enum RunningSums {
+    Unknown,
+    Known(Sums),
+}
+
+// The sums of the running block; where they are known, the block is not looked at.
+fn running_sums(m: &[u8], known: RunningSums) -> Sums
+    requires { ⌜ (length (now m) ≡ memoryLength) × Knows (now m) known ⌝ }
+    ensures { λ r. ⌜ AreSums (now (m .entry)) r ⌝ }
+{
+    match known {
+        RunningSums::Known(s) => s,
+        RunningSums::Unknown => schedule::sums_of(memory::body(m, table::COMMIT)),
+    }
+}
+
+// What is still known after an operation: no other than a set of 8001 changes the running block.
+fn kept(known: RunningSums, op: Op) -> RunningSums
+    ensures { λ r. ⌜ Keeps known op r ⌝ }
+{
+    let Op::Set(name, _, _) = op else {
+        return known;
+    };
+    if name == 0x8001 {
+        RunningSums::Unknown
+    } else {
+        known
+    }
+}
+
+// What is known where an operation has this answer: a read of 8001 finds the sums for those after it.
+fn learnt(m: &[u8], a: Answer, known: RunningSums) -> RunningSums
+    requires { ⌜ (length (now m) ≡ memoryLength) × Knows (now m) known ⌝ }
+    ensures { λ r. ⌜ Knows (now (m .entry)) r ⌝ }
+{
+    let Answer::Value(k) = a else {
+        return known;
+    };
+    if k as usize != table::COMMIT {
+        return known;
+    }
+    let s = running_sums(m, known);
+    RunningSums::Known(s)
+}
+
+// ---- records
+
+// Where the next record of each kind goes.
+pub struct Places {
+    pub values: usize,
+    pub read_errors: usize,
+    pub updates: usize,
+    pub update_errors: usize,
+    pub long_updates: usize,
 }
 
 // The value that a read of a place shows: for 8001 the two sums of the running block.
-fn write_value(m: &[u8], k: usize, name: usize, out: &mut [u8], at: usize) -> usize
-    requires { ⌜ (length (now m) ≡ memoryLength) × (k < entryCount) × (name < 65536) × (at + length (heldOctets (record { name = name; value = shown (now m) k })) ≤ length (now out)) ⌝ }
+fn write_value(
+    m: &[u8],
+    k: usize,
+    name: usize,
+    known: RunningSums,
+    out: &mut [u8],
+    at: usize,
+) -> usize
+    requires { ⌜ (length (now m) ≡ memoryLength) × (k < entryCount) × (name < 65536) × Knows (now m) known × (at + length (heldOctets (record { name = name; value = shown (now m) k })) ≤ length (now out)) ⌝ }
     ensures { λ r. ⌜ Wrote (now (out .entry)) at (heldOctets (record { name = name; value = shown (now (m .entry)) k })) r (now (out .exit)) ⌝ }
 {
-    let v = memory::body(m, k);
     if k != table::COMMIT {
+        let v = memory::body(m, k);
         return records::write_held(out, at, name, v);
     }
+    let s = running_sums(m, known);
     let mut sums = [0u8; 4];
-    schedule::write_sums(v, &mut sums);
+    schedule::write_sums(s, &mut sums);
     records::write_held(out, at, name, &sums)
 }
 
-// The record of an answer to an operation, where it is of the kind asked for; the place after it.
-fn spell(m: &[u8], list: &[u8], op: Op, a: Answer, kind: Kind, out: &mut [u8], at: usize) -> usize
-    requires { ⌜ (length (now m) ≡ memoryLength) × (length (now list) ≤ 2048) × Inside (length (now list)) op × Told a × (at + length (section kind (recordOf (answerOf (now m) (now list) op a))) ≤ length (now out)) ⌝ }
-    ensures { λ r. ⌜ Wrote (now (out .entry)) at (section kind (recordOf (answerOf (now (m .entry)) (now (list .entry)) op a))) r (now (out .exit)) ⌝ }
+// The record of an answer to an operation, at the place of its kind; the places after it.
+fn put(
+    m: &[u8],
+    list: &[u8],
+    op: Op,
+    a: Answer,
+    known: RunningSums,
+    c: Places,
+    out: &mut [u8],
+) -> Places
+    requires { ⌜ (length (now m) ≡ memoryLength) × (length (now list) ≤ 2048) × Inside (length (now list)) op × Told a × Knows (now m) known × Apart 0 order (placeOf c) (shares (now m) (now list) op a) (length (now out)) ⌝ }
+    ensures { λ r. ⌜ Filled order (placeOf c) (shares (now (m .entry)) (now (list .entry)) op a) (now (out .entry)) (placeOf r) (now (out .exit)) ⌝ }
 {
     let name = operation::name_of(op);
     let from = operation::from_of(op);
     let size = operation::size_of(op);
-    match kind {
-        Kind::Values => match a {
-            Answer::Value(k) => write_value(m, k as usize, name, out, at),
-            _ => at,
-        },
-        Kind::ReadErrors => match a {
-            Answer::ReadError(cause) => records::write_failed(out, at, name, cause),
-            _ => at,
-        },
-        Kind::Updates => {
-            let Answer::Update = a else {
-                return at;
-            };
-            if 255 < size {
-                return at;
-            }
-            records::write_short(out, at, name, &list[from..from + size])
+    let mut r = c;
+    match a {
+        Answer::Names => r,
+        Answer::Value(k) => {
+            r.values = write_value(m, k as usize, name, known, out, c.values);
+            r
         }
-        Kind::UpdateErrors => match a {
-            Answer::UpdateError(cause) => records::write_failed(out, at, name, cause),
-            _ => at,
-        },
-        Kind::LongUpdates => {
-            let Answer::Update = a else {
-                return at;
-            };
+        Answer::ReadError(cause) => {
+            r.read_errors = records::write_failed(out, c.read_errors, name, cause);
+            r
+        }
+        Answer::Update => {
+            let v = &list[from..from + size];
             if size <= 255 {
-                return at;
+                r.updates = records::write_short(out, c.updates, name, v);
+                return r;
             }
-            records::write_held(out, at, name, &list[from..from + size])
+            r.long_updates = records::write_held(out, c.long_updates, name, v);
+            r
         }
+        Answer::UpdateError(cause) => {
+            r.update_errors = records::write_failed(out, c.update_errors, name, cause);
+            r
+        }
+        Answer::Silent => r,
     }
 }
 
-// All records of a kind. The copy is lent as the memory is, and holds afterwards what the operations leave.
-pub fn write(list: &[u8], kind: Kind, copy: &mut [u8], out: &mut [u8], at: usize) -> usize
-    requires { ⌜ (sound (now copy) ≡ true) × (isSome (parse (now list)) ≡ true) × (length (now list) ≤ 2048) × (at + length (section kind (recordsOf (now copy) (now list))) ≤ length (now out)) ⌝ }
+// The records of all operations, each at the place of its kind. The copy is lent as the memory is, and holds afterwards what
+// the operations leave.
+pub fn write(list: &[u8], starts: Places, copy: &mut [u8], out: &mut [u8])
+    requires { ⌜ (sound (now copy) ≡ true) × (isSome (parse (now list)) ≡ true) × (length (now list) ≤ 2048) × Apart 0 order (placeOf starts) (sections (now copy) (now list)) (length (now out)) ⌝ }
     ensures { λ _. ⌜ now (copy .exit) ≡ after (now (copy .entry)) (orNone (parse (now (list .entry)))) ⌝ }
-    ensures { λ r. ⌜ Wrote (now (out .entry)) at (section kind (recordsOf (now (copy .entry)) (now (list .entry)))) r (now (out .exit)) ⌝ }
+    ensures { λ _. ⌜ now (out .exit) ≡ fill order (placeOf starts) (sections (now (copy .entry)) (now (list .entry))) (now (out .entry)) ⌝ }
 {
-    let mut end = at;
+    let mut c = starts;
+    let mut known = RunningSums::Unknown;
     let mut from: usize = 0;
     loop {
         let h = operation::hand_out(list, from);
         let Handed::Operation(op, next) = h else {
-            return end;
+            return;
         };
         let a = command::carry_out(copy, list, op);
-        end = spell(copy, list, op, a, kind, out, end);
+        known = learnt(copy, a, kept(known, op));
+        c = put(copy, list, op, a, known, c, out);
         from = next;
     }
 }

@@ -3,7 +3,7 @@ use Prim.Native.Nat.{ℕ, _+_, _*_, _≤_}
 use native.Mathlib.Omega.{arith}
 use types.Run.{OneOf}
 use mathlib.Core.Path.{_≡_, sym, _∙_}
-use mathlib.Core.Bool.{Bool, true, false, cond}
+use mathlib.Core.Bool.{Bool, true, false, _||_, cond, or-assoc, or-false}
 use mathlib.Core.List.{List, [], _∷_}
 use lib.Dec.{leb}
 use lib.ListN.{length}
@@ -23,7 +23,7 @@ use Rattle.operation.proofs.Handed.{the-type}
 use Rattle.operation.proofs.Turns.{HandsOut, inside-value}
 use Rattle.command.specs.declared.Answer.{Answer}
 use Rattle.command.specs.declared.Answer.the-variants.{Names, Value, ReadError, Update, UpdateError, Silent}
-use Rattle.command.specs.Answers.{answerOf, Told}
+use Rattle.command.specs.Answers.{answerOf, Told, mayChange, anyChange, Tells}
 use Rattle.command.proofs.Shown.{shown-short}
 use Rattle.command.proofs.Walk.{Under, rest, under-start, under-end, under-ahead, under-rest, under-turn}
 use Rattle.tally.specs.declared.Tally.{Tally}
@@ -75,35 +75,43 @@ told-light m s o Silent h i t = record { values = none-light; readErrors = none-
 
 -- ---- the loop
 
--- the tally of what was answered so far, with that of the answers to come, is the whole one
-pub record Counting (m list copy : List ℕ) (t : Tally) (at : ℕ) : Type 0 where
+-- the tally of what was answered so far, with that of the answers to come, is the whole one; whether memory changed, the same way
+pub record Counting (m list copy : List ℕ) (t : Tally) (changed : Bool) (at : ℕ) : Type 0 where
   pub under : Under m list copy at
   pub leads : plus t (records copy (rest list at)) ≡ tallyOf (records m (rest list 0))
+  pub flagged : (changed || anyChange (answers copy (rest list at))) ≡ anyChange (answers m (rest list 0))
   pub small : Below (4096 * at) t
 
-pub counting-start : (m list copy : List ℕ) → sound m ≡ true → isSome (parse list) ≡ true → copy ≡ m → Counting m list copy noTally 0
+pub counting-start : (m list copy : List ℕ) → sound m ≡ true → isSome (parse list) ≡ true → copy ≡ m → Counting m list copy noTally false 0
 unfolding tallyOf
 counting-start m list copy s w e =
-    record { under = under-start m list copy s w e; leads = rw e; small = (none-small, none-small, none-small, none-small, none-small) }
+    record { under = under-start m list copy s w e; leads = rw e; flagged = rw e; small = (none-small, none-small, none-small, none-small, none-small) }
 
-module _ (m list copy : List ℕ) (t : Tally) (at : ℕ) (u : Counting m list copy t at) (h : Handed) (hands : HandsOut list at h) where
+module _ (m list copy : List ℕ) (t : Tally) (changed : Bool) (at : ℕ) (u : Counting m list copy t changed at) (h : Handed) (hands : HandsOut list at h) where
   pub counting-end : length list ≤ 2048 → OneOf (1 ∷ 2 ∷ []) (tagOf the-type h)
-      → (t ≡ tallyOf (records m (rest list 0))) × Below 16777216 t × (copy ≡ after m (rest list 0))
-  unfolding records gathered answers
+      → (t ≡ tallyOf (records m (rest list 0))) × Below 16777216 t × (copy ≡ after m (rest list 0)) × (changed ≡ anyChange (answers m (rest list 0)))
+  unfolding records gathered answers anyChange
   counting-end long k =
-      let e = under-end m list copy at (u .under) h hands k in
-      (silent-added t ∙ unfold recordOf in rw (e .0) at (u .leads), below-more (4096 * at) 16777216 t (omega (arith, u .under .inside, long)) (u .small), e .1)
+      let e = under-end m list copy at (u .under) h hands k in (
+        silent-added t ∙ unfold recordOf in rw (e .0) at (u .leads),
+        below-more (4096 * at) 16777216 t (omega (arith, u .under .inside, long)) (u .small),
+        e .1,
+        sym (or-false changed) ∙ rw (e .0) at (u .flagged),
+      )
 
-  pub counting-turn : (o : Op) (next : ℕ) → h ≡ Operation o next → length list ≤ 2048 → (copy′ : List ℕ) (a : Answer) (t′ : Tally)
-      → copy′ ≡ step copy (opOf list o) → answerOf copy′ list o a ≡ answer copy (opOf list o) → Told a → Adds copy′ t o a t′
-      → Counting m list copy′ t′ next
-  unfolding records gathered answers
-  counting-turn o next e long copy′ a t′ q b told adds =
+  pub counting-turn : (o : Op) (next : ℕ) → h ≡ Operation o next → length list ≤ 2048 → (copy′ : List ℕ) (a : Answer) (t′ : Tally) (b : Bool)
+      → copy′ ≡ step copy (opOf list o) → answerOf copy′ list o a ≡ answer copy (opOf list o) → Told a → Adds copy′ t o a t′ → Tells a b
+      → Counting m list copy′ t′ (changed || b) next
+  unfolding records gathered answers anyChange
+  counting-turn o next e long copy′ a t′ b q p told adds tells =
       let w = under-ahead m list copy at (u .under) h hands o next e in
       let x : t′ ≡ plus t (recordOf (answerOf copy′ list o a)) = adds list (w .2) in
+      let y : b ≡ mayChange (answer copy (opOf list o)) = rw (← p) (tells copy′ list o) in
+      let r = under-rest m list copy at (u .under) h hands o next e in
       record {
         under = under-turn m list copy at (u .under) h hands o next e copy′ q;
-        leads = rw (x, b, q) (sym (plus-joined t (recordOf (answer copy (opOf list o))) _) ∙ rw (under-rest m list copy at (u .under) h hands o next e) at (u .leads));
+        leads = rw (x, p, q) (sym (plus-joined t (recordOf (answer copy (opOf list o))) _) ∙ rw r at (u .leads));
+        flagged = rw (y, q) (or-assoc changed (mayChange (answer copy (opOf list o))) _ ∙ rw r at (u .flagged));
         small =
             rw x
             (below-more (4096 * at + 4096) (4096 * next) (plus t (recordOf (answerOf copy′ list o a))) (omega (arith, w .0))

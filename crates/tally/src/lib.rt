@@ -7,10 +7,10 @@ ghost use lib.ListN.{length};
 ghost use Rattle.meaning.specs.Table.{memoryLength, entryCount};
 ghost use Rattle.meaning.specs.Memory.{sound};
 ghost use Rattle.meaning.specs.Operation.{parse, isSome, orNone};
-ghost use Rattle.meaning.specs.Step.{shown, after};
+ghost use Rattle.meaning.specs.Step.{shown, after, answers};
 ghost use Rattle.meaning.specs.Calls.{records};
 ghost use Rattle.operation.specs.Handing.{Inside};
-ghost use Rattle.command.specs.Answers.{Told};
+ghost use Rattle.command.specs.Answers.{Told, anyChange};
 ghost use Rattle.tally.specs.Tallies.{grown, tallyOf, Below, Adds, anyRead, anySet, readOctets, setOctets, elementLength, replyLength, tallyFits};
 use command::Answer;
 use operation::Handed;
@@ -30,6 +30,12 @@ pub struct Tally {
     pub updates: Count,
     pub update_errors: Count,
     pub long_updates: Count,
+}
+
+// A tally, and whether an operation may have changed memory: where none may, the copy still is the memory.
+pub struct Taken {
+    pub tally: Tally,
+    pub changed: bool,
 }
 
 // One record more, of so many octets.
@@ -96,11 +102,12 @@ fn add(t: Tally, m: &[u8], op: Op, a: Answer) -> Tally
 }
 
 // The tally of a whole list of operations. The copy is filled from the memory and holds afterwards what they leave.
-pub fn take(m: &[u8], list: &[u8], copy: &mut [u8]) -> Tally
+pub fn take(m: &[u8], list: &[u8], copy: &mut [u8]) -> Taken
     requires { ⌜ (sound (now m) ≡ true) × (isSome (parse (now list)) ≡ true) × (length (now list) ≤ 2048) × (length (now copy) ≡ memoryLength) ⌝ }
-    ensures { λ r. ⌜ r ≡ tallyOf (records (now (m .entry)) (orNone (parse (now (list .entry))))) ⌝ }
-    ensures { λ r. ⌜ Below 16777216 r ⌝ }
+    ensures { λ r. ⌜ r .tally ≡ tallyOf (records (now (m .entry)) (orNone (parse (now (list .entry))))) ⌝ }
+    ensures { λ r. ⌜ Below 16777216 (r .tally) ⌝ }
     ensures { λ _. ⌜ now (copy .exit) ≡ after (now (m .entry)) (orNone (parse (now (list .entry)))) ⌝ }
+    ensures { λ r. ⌜ r .changed ≡ anyChange (answers (now (m .entry)) (orNone (parse (now (list .entry))))) ⌝ }
 {
     bytes::copy(m, copy);
     let none = Count {
@@ -115,14 +122,16 @@ pub fn take(m: &[u8], list: &[u8], copy: &mut [u8]) -> Tally
         update_errors: none,
         long_updates: none,
     };
+    let mut changed = false;
     let mut at: usize = 0;
     loop {
         let h = operation::hand_out(list, at);
         let Handed::Operation(op, next) = h else {
-            return t;
+            return Taken { tally: t, changed };
         };
         let a = command::carry_out(copy, list, op);
         t = add(t, copy, op, a);
+        changed = changed | command::changes(a);
         at = next;
     }
 }

@@ -1,17 +1,19 @@
 -- `endpoint::carry_out` meets its contract.
-use Prim.Native.Nat.{_≤_}
+use Prim.Native.Nat.{ℕ}
 use native.Mathlib.Omega.{arith}
 use mathlib.Core.Path.{_≡_, refl, sym, ap, _∙_}
+use mathlib.Core.Bool.{false}
+use mathlib.Core.List.{List}
 use lib.ListN.{length}
 use borrow.Author.Needs.{needs}
-use Rattle.meaning.specs.Operation.{parse, orNone}
+use Rattle.meaning.specs.Operation.{Op, parse, orNone}
 use Rattle.meaning.specs.Step.{after}
 use Rattle.meaning.specs.Reply.{complete}
 use Rattle.meaning.specs.Calls.{records, carriedOut, fits}
 use Rattle.meaning.proofs.Tests.{denied, affirmed}
 use Rattle.meaning.proofs.Kept.{after-sound}
-use Rattle.octets.proofs.Splices.{copied-whole}
 use Rattle.command.proofs.Sets.{long-of}
+use Rattle.command.proofs.Unchanged.{after-unchanged}
 use Rattle.tally.specs.Tallies.{replyLength, tallyFits}
 use Rattle.tally.proofs.Lengths.{reply-length, tally-fits}
 use Rattle.endpoint.specs.Outcomes.{numberOf, lengthOf}
@@ -20,12 +22,48 @@ use Rattle.endpoint.proofs.Exits.{gives-told, gives-done, command-fits,
 use Rattle.endpoint.proofs.carry_out.Statement.{statement}
 use Rattle.endpoint.proofs.carry_out.Tie as tie
 
+module _ (c : tie.Start) where
+  abbrev memory : List ℕ
+  memory = c .args .memory .now
+
+  abbrev operations : List Op
+  operations = orNone (parse (c .args .list .now))
+
+  abbrev room : List ℕ
+  room = c .args .room .now
+
 -- the tally tells whether the reply fits
-tested : (c : tie.After-fits2) → fits (length (c .before .before .before .before .before .before .before .before .before .args .room .now)) (carriedOut (c .before .before .before .before .before .before .before .before .before .args .memory .now) (orNone (parse (c .before .before .before .before .before .before .before .before .before .args .list .now)))) ≡ c .fits2 .result
-tested c =
-    let a = c .before .before .before .before .before .before .before .before .before .args in
-    let n = length (a .room .now) in
-    sym (c .fits2 .ensures ∙ ap (tallyFits n) (c .before .before .before .take .ensures .0) ∙ tally-fits n (a .memory .now) (orNone (parse (a .list .now))))
+module _ (c : tie.After-fits2) where
+  abbrev start : tie.Start
+  start = c .before .before .before .before .before .before .before .before .before .before
+
+  abbrev counted : tie.After-take
+  counted = c .before .before .before .before
+
+  tested : fits (length (room start)) (carriedOut (memory start) (operations start)) ≡ c .fits2 .result
+  tested = sym (c .fits2 .ensures ∙ ap (tallyFits (length (room start))) (counted .take .ensures .0) ∙ tally-fits (length (room start)) (memory start) (operations start))
+
+  told-length : c .before .reply-length .result ≡ length (complete (records (memory start) (operations start)))
+  told-length = c .before .reply-length .ensures ∙ ap replyLength (counted .take .ensures .0) ∙ reply-length (records (memory start) (operations start))
+
+-- the copy as the operations leave it
+module _ (c : tie.After-write) where
+  abbrev fitted : tie.After-fits2
+  fitted = c .before .before .before .before .before
+
+  abbrev copied : List ℕ
+  copied = c .write .last .1 .1 .1 .1 .0
+
+  copied-is : copied ≡ after (memory (start fitted)) (operations (start fitted))
+  copied-is = c .write .ensures .0
+
+  as-long : length (memory (start fitted)) ≡ length copied
+  as-long =
+      let s = start fitted in
+      long-of _ (s .pre .0) ∙ sym (ap length copied-is ∙ long-of _ (after-sound (memory s) (operations s) (s .pre .0)))
+
+  unchanged : counted fitted .take .result .changed ≡ false → memory (start fitted) ≡ copied
+  unchanged e = sym (copied-is ∙ after-unchanged (memory (start fitted)) (operations (start fitted)) (sym (counted fitted .take .ensures .1 .1 .1) ∙ e))
 
 slice-aggregate-take : tie.Need-slice-aggregate-take
 slice-aggregate-take c = search needs
@@ -45,27 +83,24 @@ same-length c = search needs
 returns : tie.Need-returns
 unfolding numberOf lengthOf
 returns c =
-    let a = c .before .before .before .before .before .before .before .before .before .before .args in
-    gives-told (a .memory .now) (a .room .now) 7 NoRoom (command-7 (a .memory .now) (a .list .now) (a .room .now) (tested (c .before) ∙ denied _ (c .if1 .taken))) refl refl
+    let s = start (c .before) in
+    gives-told (memory s) (room s) 7 NoRoom (command-7 (memory s) (s .args .list .now) (room s) (tested (c .before) ∙ denied _ (c .if1 .taken))) refl refl
 
 slice-aggregate-write : tie.Need-slice-aggregate-write
 slice-aggregate-write c = search needs
 
 write-requires : tie.Need-write-requires
 write-requires c κs =
-    let s = c .before .before .before .before .before .before .before .before .before .before .before .before .before in
     let k = c .before .before .before .before in
-    let t = k .before .before .before .take in
-    ((s .pre .0, s .pre .1, s .pre .2, t .ensures .1 .1), (t .ensures .0, t .ensures .1 .0, sym (k .fits2 .ensures) ∙ affirmed _ (c .before .before .before .if1 .left)))
+    let s = start k in
+    let t = counted k .take .ensures in
+    ((s .pre .0, s .pre .1, s .pre .2, t .1 .1 .0, t .1 .1 .1), (t .0, t .1 .0, sym (k .fits2 .ensures) ∙ affirmed _ (c .before .before .before .if1 .left)))
 
-slice-aggregate-copy : tie.Need-slice-aggregate-copy
-slice-aggregate-copy c = search needs
+slice-aggregate-renew : tie.Need-slice-aggregate-renew
+slice-aggregate-renew c = search needs
 
-copy-requires : tie.Need-copy-requires
-copy-requires c κs =
-    let s = c .before .before .before .before .before .before .before .before .before .before .before .before .before .before .before .before .before .before .before in
-    let w = c .before .before .before .before .before .write .ensures .0 in
-    omega (arith, ap length w, long-of _ (after-sound (s .args .memory .now) (orNone (parse (s .args .list .now))) (s .pre .0)), long-of _ (s .pre .0))
+renew-requires : tie.Need-renew-requires
+renew-requires c κs = (as-long (c .before .before .before .before .before), unchanged (c .before .before .before .before .before))
 
 same-length-2 : tie.Need-same-length-2
 same-length-2 c = search needs
@@ -75,16 +110,12 @@ same-length-3 c = search needs
 
 returns-2 : tie.Need-returns-2
 returns-2 c =
-    let s = c .before .before .before .before .before .before .before .before .before .before .before .before .before .before .before .before .before .before .before .before .before .before in
-    let m = s .args .memory .now in
-    let os = orNone (parse (s .args .list .now)) in
-    let w = c .before .before .before .before .before .before .before .before .write in
-    let k = c .before .before .before .before .before .before .before .before .before .before .before .before .before in
-    let n = c .before .before .before .before .before .before .before .before .before .before .before .before .before .before .reply-length .ensures ∙ ap replyLength (c .before .before .before .before .before .before .before .before .before .before .before .before .before .before .before .before .take .ensures .0) ∙ reply-length (records m os) in
-    let l : length m ≤ length (w .last .1 .1 .1 .0) = omega (arith, ap length (w .ensures .0), long-of _ (after-sound m os (s .pre .0)), long-of _ (s .pre .0)) in
-    gives-done (complete (records m os)) (after m os) (s .args .room .now) (c .before .before .before .before .before .before .before .before .before .before .before .before .before .before .reply-length .result)
-    (command-fits m (s .args .list .now) (s .args .room .now) (tested k ∙ affirmed _ (c .before .before .before .before .before .before .before .before .before .before .before .before .if1 .left))) n
-    (copied-whole _ m _ l (c .before .before .copy6 .ensures .1) ∙ w .ensures .0) (w .ensures .1)
+    let w = c .before .before .before .before .before .before .before .before in
+    let k = fitted w in
+    let s = start k in
+    gives-done (complete (records (memory s) (operations s))) (after (memory s) (operations s)) (room s) (k .before .reply-length .result)
+    (command-fits (memory s) (s .args .list .now) (room s) (tested k ∙ affirmed _ (c .before .before .before .before .before .before .before .before .before .before .before .before .if1 .left))) (told-length k)
+    (c .before .before .renew .ensures ∙ copied-is w) (w .write .ensures .1)
 
 pub carry-out-spec : {M : Type 1} → statement M
 carry-out-spec =
@@ -98,8 +129,8 @@ carry-out-spec =
     returns
     slice-aggregate-write
     write-requires
-    slice-aggregate-copy
-    copy-requires
+    slice-aggregate-renew
+    renew-requires
     same-length-2
     same-length-3
     returns-2)

@@ -1,28 +1,29 @@
 -- `reply::write` meets its contract.
-use Prim.Native.Nat.{_+_, _-_, _≤_}
 use native.Mathlib.Omega.{arith}
-use mathlib.Core.Path.{_≡_, refl, sym, ap, _∙_}
-use mathlib.Core.List.{_++_}
+use Prim.Native.Nat.{_≤_}
+use mathlib.Core.Path.{_≡_, sym, ap, _∙_}
+use mathlib.Core.Bool.{false}
 use lib.ListN.{length}
 use borrow.Author.Needs.{needs}
+use Rattle.meaning.specs.Operation.{parse, orNone}
 use Rattle.meaning.specs.Reply.{Records, complete}
-use Rattle.records.proofs.Pieces.{Left, left-start, left-as, first-fits, left-fits, left-next, left-none, left-last, at-start}
+use Rattle.octets.specs.Filling.{Filled}
+use Rattle.records.proofs.Pieces.{Left, left-fits, left-last, at-start}
+use Rattle.command.proofs.Sets.{long-of}
+use Rattle.command.proofs.Unchanged.{after-unchanged}
 use Rattle.tally.specs.declared.Tally.{Tally}
+use Rattle.tally.specs.Tallies.{tallyOf, tallyFits}
 use Rattle.tally.proofs.Lengths.{asked-names}
-use Rattle.section.specs.Kinds.{recordsOf}
-use Rattle.reply.specs.Sections.{piece}
-use Rattle.reply.proofs.Parts.{fits-of, fitting-same, pieces, type-fits, names-fit, after-names, next-piece, no-piece}
+use Rattle.section.specs.Kinds.{order, recordsOf}
+use Rattle.section.specs.Places.{placeOf}
+use Rattle.reply.specs.Sections.{front, begins}
+use Rattle.reply.proofs.Parts.{copy-long, fits-of, pieces, type-fits, names-fit, after-names}
+use Rattle.reply.proofs.Fronts.{fronts-fit, sections-fit, pieces-written}
 use Rattle.reply.proofs.write.Statement.{statement}
 use Rattle.reply.proofs.write.Tie as tie
 
-abbrev Inv-loop : tie.InvT-loop
-Inv-loop m list t copy₀ out₀ names capabilities at₀ i₀ copy out at i = (i ≤ 5) × (copy ≡ copy₀) × Left out₀ at₀ (pieces (recordsOf m list) 0) out at (pieces (recordsOf m list) i)
-
-abbrev μ-loop : tie.MeasureT-loop
-μ-loop m list t copy₀ out₀ names capabilities at₀ i₀ copy out at i = 5 - i
-
 -- what is known from the start
-module _ (c : tie.Start Inv-loop μ-loop) where
+module _ (c : tie.Start) where
   abbrev rs : Records
   rs = recordsOf (c .args .m .now) (c .args .list .now)
 
@@ -32,100 +33,83 @@ module _ (c : tie.Start Inv-loop μ-loop) where
   names-asked : c .args .t .capabilities ≡ rs .capabilities
   names-asked = ap (λ (t : Tally). t .capabilities) (c .pre .1 .0) ∙ asked-names rs
 
--- behind the names the kinds are left
-module _ (c : tie.After-write-capabilities Inv-loop μ-loop) where
-  abbrev start : tie.Start Inv-loop μ-loop
+  -- the copy is still the memory where nothing may have changed it
+  unchanged : c .args .changed ≡ false → c .args .copy .now ≡ c .args .m .now
+  unchanged e = c .pre .0 .3 ∙ after-unchanged (c .args .m .now) (orNone (parse (c .args .list .now))) (sym (c .pre .0 .4) ∙ e)
+
+-- behind the names the pieces are left
+module _ (c : tie.After-write-capabilities) where
+  abbrev start : tie.Start
   start = c .before .before .before .before .before .before .before .before .before .before
 
-  begun : Left (start .args .out .now) 0 (complete (rs start)) (c .write-capabilities .last .1 .0) (c .write-capabilities .result) (pieces (rs start) 0)
+  begun : Left (start .args .out .now) 0 (complete (rs start)) (c .write-capabilities .last .1 .0) (c .write-capabilities .result) (pieces (rs start))
   begun =
       after-names (rs start) (start .args .out .now) (room start) (c .before .before .before .before .write-count .ensures)
       (rw (names-asked start) at (c .write-capabilities .ensures))
 
-same-room : (c : tie.At-loop Inv-loop μ-loop) → length (c .loop .out) ≡ length (c .before .before .before .before .before .before .before .before .before .before .before .before .before .args .out .now)
-same-room c = c .loop .inv .2 .same ∙ begun (c .before .before .before) .same
+-- what stands before the records is written
+module _ (c : tie.After-write-fronts) where
+  abbrev names : tie.After-write-capabilities
+  names = c .before .before .before .before
 
--- what a turn has before it, the kind's piece first
-turn : (c : tie.After-kind-at Inv-loop μ-loop)
-    → let l = c .before .before in
-    let v = l .before .before .before .write-capabilities in
-    let r = rs (l .before .before .before .before .before .before .before .before .before .before .before .before .before) in
-    Left (v .last .1 .0) (v .result) (pieces r 0) (l .loop .out) (l .loop .at) (piece r (c .kind-at .result) ++ pieces r (l .loop .i + 1))
-turn c =
-    let l = c .before .before in
-    left-as (next-piece (rs (l .before .before .before .before .before .before .before .before .before .before .before .before .before)) (l .loop .i) (c .kind-at .result) (c .kind-at .ensures)) (l .loop .inv .2)
+  fronted : Filled order (begins (tallyOf (rs (start names))) (names .write-capabilities .result)) (front (tallyOf (rs (start names)))) (names .write-capabilities .last .1 .0)
+      (placeOf (c .write-fronts .result)) (c .write-fronts .last .1 .0)
+  fronted = rw (start names .pre .1 .0) at (c .write-fronts .ensures)
 
-write-count-requires : tie.Need-write-count-requires Inv-loop μ-loop
+write-count-requires : tie.Need-write-count-requires
 write-count-requires c κs =
     let s = c .before .before .before .before .before in
     (type-fits (rs s) (s .args .out .now) (room s), omega arith)
 
-write-capabilities-requires : tie.Need-write-capabilities-requires Inv-loop μ-loop
+write-capabilities-requires : tie.Need-write-capabilities-requires
 write-capabilities-requires c κs =
     let s = c .before .before .before .before .before .before .before .before .before in
     rw (names-asked s) (names-fit (rs s) (s .args .out .now) (room s) (c .before .before .before .write-count .ensures))
 
-loop-holds : tie.Need-loop-holds Inv-loop μ-loop
-loop-holds c = (omega arith, refl, left-start _ _ _ (left-fits (begun (c .before .before))))
+write-fronts-requires : tie.Need-write-fronts-requires
+write-fronts-requires c κs =
+    let w = c .before .before .before in
+    let s = start w in
+    let h = fronts-fit (rs s) (w .write-capabilities .result) (w .write-capabilities .last .1 .0) (left-fits (begun w)) in
+    (s .pre .1 .1, rw (begun w .same) (s .pre .1 .2), rw (s .pre .1 .0) h)
 
-kind-at-requires : tie.Need-kind-at-requires Inv-loop μ-loop
-kind-at-requires c κs = search needs
+renew-requires : tie.Need-renew-requires
+renew-requires c κs =
+    let s = c .before .before .before .before .before .before .before .before .before .before .before .before .before .before .before .before .before in
+    (copy-long _ _ _ (s .args .changed) (s .pre .0) ∙ sym (long-of _ (s .pre .0 .0)), unchanged s)
 
-write-kind-requires : tie.Need-write-kind-requires Inv-loop μ-loop
-write-kind-requires c κs =
-    let l = c .before .before .before .before in
-    let s = l .before .before .before .before .before .before .before .before .before .before .before .before .before in
-    let k = c .before .before in (
-      (s .pre .0 .0, s .pre .0 .1, s .pre .0 .2, l .loop .inv .1 ∙ s .pre .0 .3),
-      fitting-same _ _ _ _ _ (sym (same-room l)) (s .pre .1),
-      first-fits (piece (rs s) (k .kind-at .result)) (pieces (rs s) (l .loop .i + 1)) (turn k),
-    )
+write-requires : tie.Need-write-requires
+write-requires c κs =
+    let f = c .before .before .before .before .before .before .before .before in
+    let w = names f in
+    let s = start w in
+    rw (c .before .before .before .before .renew .ensures)
+    (s .pre .0 .0, s .pre .0 .1, s .pre .0 .2, sections-fit (rs s) (w .write-capabilities .result) (w .write-capabilities .last .1 .0) (left-fits (begun w)) (f .write-fronts .result) (f .write-fronts .last .1 .0) (fronted f))
 
-add-i : tie.Need-add-i Inv-loop μ-loop
-add-i c = search needs
+same-length : tie.Need-same-length
+same-length c = search needs
 
-loop-less : tie.Need-loop-less Inv-loop μ-loop
-loop-less c = omega (arith, c .before .before .before .before .before .before .before .before .loop-test .taken)
+same-length-2 : tie.Need-same-length-2
+same-length-2 c = search needs
 
-loop-again : tie.Need-loop-again Inv-loop μ-loop
-loop-again c =
-    let k = c .before .before .before .before .before .before .before in
-    let l = k .before .before in
-    let s = l .before .before .before .before .before .before .before .before .before .before .before .before .before in
-    let w = c .before .before .before .before .write-kind .ensures in (
-      omega (arith, c .before .before .before .before .before .before .before .before .loop-test .taken),
-      w .0 ∙ sym (s .pre .0 .3),
-      left-next (piece (rs s) (k .kind-at .result)) (pieces (rs s) (l .loop .i + 1)) (turn k) (w .1),
-    )
-
-same-length : tie.Need-same-length Inv-loop μ-loop
-same-length c = ap length (c .before .loop .inv .1)
-
-same-length-2 : tie.Need-same-length-2 Inv-loop μ-loop
-same-length-2 c = same-room (c .before)
-
-returns : tie.Need-returns Inv-loop μ-loop
+returns : tie.Need-returns
 returns c =
-    let l = c .before in
-    let s = l .before .before .before .before .before .before .before .before .before .before .before .before .before in
-    let i = l .loop .inv in
-    let n = no-piece (rs s) (l .loop .i) (i .0) (c .loop-test .left) in
-    (i .1 ∙ s .pre .0 .3, left-last (begun (l .before .before .before)) (left-none n (i .2)) .1 ∙ at-start (s .args .out .now) (complete (rs s)))
+    let f = c .before .before .before .before .before .before .before .before .before .before .before .before .before in
+    let w = names f in
+    let s = start w in
+    let k = rw (c .before .before .before .before .before .before .before .before .before .renew .ensures) at (c .before .before .before .before .write .ensures) in
+    let p = pieces-written (rs s) (w .write-capabilities .result) (w .write-capabilities .last .1 .0) (left-fits (begun w)) (f .write-fronts .result) (f .write-fronts .last .1 .0) (fronted f) _ (k .1) in
+    (k .0, left-last (begun w) p .1 ∙ at-start (s .args .out .now) (complete (rs s)))
 
 pub write-spec : {M : Type 1} → statement M
 write-spec =
     tie.close
     (tie.spec
-    Inv-loop
-    μ-loop
     write-count-requires
     write-capabilities-requires
-    loop-holds
-    kind-at-requires
-    write-kind-requires
-    add-i
-    loop-less
-    loop-again
+    write-fronts-requires
+    renew-requires
+    write-requires
     same-length
     same-length-2
     returns)

@@ -1,16 +1,12 @@
 -- `schedule::write_sums` meets its contract.
 use native.Mathlib.Omega.{arith}
-use mathlib.Core.Path.{_≡_, refl, _∙_}
+use mathlib.Core.Path.{refl, _∙_}
 use mathlib.Core.List.{_++_}
 use borrow.Author.Needs.{needs}
 use Rattle.meaning.specs.Octets.{be16}
-use Rattle.meaning.specs.Block.{sums}
 use Rattle.octets.proofs.Splices.{then, splice-all}
 use Rattle.schedule.proofs.write_sums.Statement.{statement}
 use Rattle.schedule.proofs.write_sums.Tie as tie
-
-sums-of-requires : tie.Need-sums-of-requires
-sums-of-requires c κs = search needs
 
 cast-put16 : tie.Need-cast-put16
 cast-put16 c = search needs
@@ -28,26 +24,21 @@ same-length : tie.Need-same-length
 same-length c = search needs
 
 returns : tie.Need-returns
-unfolding sums be16
+unfolding be16
 returns c =
     let u = c .before .before in
     let t = u .before .before .before .before .before in
-    let k = t .before .before .before in
-    let s = k .before .before .before in
-    let b = s .args .block .now in
+    let s = t .before .before .before .before in
     let out = s .args .out .now in
-    let p = k .sums-of .result .first in
-    let q = k .sums-of .result .second in
-    let e : u .put162 .last .0 ≡ be16 p ++ be16 q =
+    let p = s .args .s .first in
+    let q = s .args .s .second in
     then out (be16 p) (be16 q) 0 2 (omega (arith, s .pre)) refl (t .put16 .ensures) (u .put162 .ensures)
-    ∙ splice-all out (be16 p ++ be16 q) (omega (arith, s .pre)) in
-    rw (e, k .sums-of .ensures .0, k .sums-of .ensures .1)
+    ∙ splice-all out (be16 p ++ be16 q) (omega (arith, s .pre))
 
 pub write-sums-spec : {M : Type 1} → statement M
 write-sums-spec =
     tie.close
     (tie.spec
-    sums-of-requires
     cast-put16
     put16-requires
     cast-put16-2

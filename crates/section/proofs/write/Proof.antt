@@ -7,15 +7,16 @@ use borrow.Author.Needs.{needs}
 use Rattle.operation.specs.Handing.{Inside}
 use Rattle.command.proofs.Sets.{long-of}
 use Rattle.command.proofs.Walk.{under-ahead}
-use Rattle.section.proofs.Loop.{Writing, writing-start, writing-end, turn-fits, writing-turn}
+use Rattle.section.specs.Knowing.{Knows}
+use Rattle.section.proofs.Pass.{Passing, passing-start, passing-end, turn-fits, passing-turn}
 use Rattle.section.proofs.write.Statement.{statement}
 use Rattle.section.proofs.write.Tie as tie
 
 abbrev Inv-loop : tie.InvT-loop
-Inv-loop list kind copy₀ out₀ at end₀ from₀ copy out end from = Writing kind copy₀ list out₀ at copy out end from
+Inv-loop list copy₀ out₀ c₀ known₀ from₀ copy out c known from = Passing c₀ copy₀ list out₀ copy out c known from
 
 abbrev μ-loop : tie.MeasureT-loop
-μ-loop list kind copy₀ out₀ at end₀ from₀ copy out end from = length list - from
+μ-loop list copy₀ out₀ c₀ known₀ from₀ copy out c known from = length list - from
 
 -- the position after the operation
 ahead : (c : tie.After-h Inv-loop μ-loop)
@@ -27,7 +28,7 @@ ahead c =
 loop-holds : tie.Need-loop-holds Inv-loop μ-loop
 loop-holds c =
     let s = c .before .before .before in
-    writing-start _ _ _ _ _ _ (s .pre .0) (s .pre .1) refl (s .pre .3)
+    passing-start _ _ _ _ _ (s .pre .0) (s .pre .1) refl (s .pre .3)
 
 hand-out-requires : tie.Need-hand-out-requires Inv-loop μ-loop
 hand-out-requires c κs = search needs
@@ -44,36 +45,51 @@ same-length-2 c = c .before .before .loop .inv .remains .same
 returns : tie.Need-returns Inv-loop μ-loop
 returns c =
     let l = c .before .before .loop in
-    let e = writing-end _ _ _ _ _ _ _ (l .end) (l .from) (l .inv) _ (c .before .hand-out .ensures) (c .match .keys2) in
+    let e = passing-end _ _ _ _ _ _ (l .c) (l .known) (l .from) (l .inv) _ (c .before .hand-out .ensures) (c .match .keys2) in
     (e .0, e .1)
 
 carry-out-requires : tie.Need-carry-out-requires Inv-loop μ-loop
 carry-out-requires c κs = (c .before .before .before .before .before .loop .inv .under .isSound, ahead (c .before .before) .2)
 
-spell-requires : tie.Need-spell-requires Inv-loop μ-loop
-spell-requires c κs =
+kept-requires : tie.Need-kept-requires Inv-loop μ-loop
+kept-requires c κs = search needs
+
+-- what is known once the operation is carried out, and once its answer is
+still-known : (c : tie.After-kept Inv-loop μ-loop) → Knows (c .before .before .before .before .carry-out .last .0) (c .kept .result)
+still-known c =
+    let l = c .before .before .before .before .before .before .before .before .before .before .loop in
     let k = c .before .before .before .before .carry-out in
-    let h = c .before .before .before .before .before .before .before in
-    let l = c .before .before .before .before .before .before .before .before .before .before .loop in (
+    rw (k .ensures .0) (c .kept .ensures _ _ (l .inv .under .isSound) (l .inv .knows))
+
+learnt-requires : tie.Need-learnt-requires Inv-loop μ-loop
+learnt-requires c κs = (c .before .before .before .before .carry-out .kept .0 ∙ long-of _ (c .before .before .before .before .before .before .before .before .before .before .loop .inv .under .isSound), still-known c)
+
+put-requires : tie.Need-put-requires Inv-loop μ-loop
+put-requires c κs =
+    let k = c .before .before .before .before .before .before .before .carry-out in
+    let h = c .before .before .before .before .before .before .before .before .before .before in
+    let l = c .before .before .before .before .before .before .before .before .before .before .before .before .before .loop in
+    let s = c .before .before .before .before .before .before .before .before .before .before .before .before .before .before .before .before .before in (
       k .kept .0 ∙ long-of _ (l .inv .under .isSound),
-      c .before .before .before .before .before .before .before .before .before .before .before .before .before .before .pre .2,
+      s .pre .2,
       ahead h .2,
       k .ensures .1 .1,
-      turn-fits _ _ _ _ _ _ _ (l .end) (l .from) (l .inv) _ (h .before .before .hand-out .ensures) _ _ (h .h .given .1) _ (k .result) (k .ensures .0) (k .ensures .1 .0),
+      c .before .before .learnt .ensures,
+      turn-fits _ _ _ _ _ _ (l .c) (l .known) (l .from) (l .inv) _ (h .before .before .hand-out .ensures) _ _ (h .h .given .1) _ (k .result) (k .ensures .0) (k .ensures .1 .0),
     )
 
 loop-less : tie.Need-loop-less Inv-loop μ-loop
 loop-less c =
-    let w = ahead (c .before .before .before .before .before .before .before .before .before .before) in
+    let w = ahead (c .before .before .before .before .before .before .before .before .before .before .before .before .before) in
     omega (arith, w .0, w .1)
 
 loop-again : tie.Need-loop-again Inv-loop μ-loop
 loop-again c =
-    let h = c .before .before .before .before .before .before .before .before .before .before in
-    let k = c .before .before .before .before .before .before .before .carry-out in
-    let l = c .before .before .before .before .before .before .before .before .before .before .before .before .before .loop in
-    writing-turn _ _ _ _ _ _ _ (l .end) (l .from) (l .inv) _ (h .before .before .hand-out .ensures) _ _ (h .h .given .1) _ (k .result) (k .ensures .0) (k .ensures .1 .0) _ _
-    (c .before .before .spell .ensures)
+    let k = c .before .before .before .before .before .before .before .before .before .before .carry-out in
+    let h = c .before .before .before .before .before .before .before .before .before .before .before .before .before in
+    let l = c .before .before .before .before .before .before .before .before .before .before .before .before .before .before .before .before .loop in
+    passing-turn _ _ _ _ _ _ (l .c) (l .known) (l .from) (l .inv) _ (h .before .before .hand-out .ensures) _ _ (h .h .given .1) _ (k .result) (k .ensures .0) (k .ensures .1 .0)
+    _ _ _ (c .before .before .before .before .before .learnt .ensures) (c .before .before .put .ensures)
 
 pub write-spec : {M : Type 1} → statement M
 write-spec =
@@ -88,6 +104,8 @@ write-spec =
     same-length-2
     returns
     carry-out-requires
-    spell-requires
+    kept-requires
+    learnt-requires
+    put-requires
     loop-less
     loop-again)

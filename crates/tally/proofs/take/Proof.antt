@@ -15,10 +15,10 @@ use Rattle.tally.proofs.take.Statement.{statement}
 use Rattle.tally.proofs.take.Tie as tie
 
 abbrev Inv-loop : tie.InvT-loop
-Inv-loop m list copy₀ t₀ at₀ copy t at = Counting m list copy t at
+Inv-loop m list copy₀ t₀ changed₀ at₀ copy t changed at = Counting m list copy t changed at
 
 abbrev μ-loop : tie.MeasureT-loop
-μ-loop m list copy₀ t₀ at₀ copy t at = length list - at
+μ-loop m list copy₀ t₀ changed₀ at₀ copy t changed at = length list - at
 
 -- the position after the operation
 ahead : (c : tie.After-h Inv-loop μ-loop)
@@ -49,8 +49,8 @@ same-length c = long-of _ (c .before .before .loop .inv .under .isSound) ∙ sym
 
 returns : tie.Need-returns Inv-loop μ-loop
 returns c =
-    let e = counting-end _ _ _ _ (c .before .before .loop .at) (c .before .before .loop .inv) _ (c .before .hand-out .ensures) (c .before .before .before .before .before .before .before .before .before .before .pre .2) (c .match .keys2) in
-    (e .0, (e .1, e .2))
+    let e = counting-end _ _ _ _ _ (c .before .before .loop .at) (c .before .before .loop .inv) _ (c .before .hand-out .ensures) (c .before .before .before .before .before .before .before .before .before .before .pre .2) (c .match .keys2) in
+    (e .0, (e .1, (e .2, e .3)))
 
 carry-out-requires : tie.Need-carry-out-requires Inv-loop μ-loop
 carry-out-requires c κs = (c .before .before .before .before .before .loop .inv .under .isSound, ahead (c .before .before) .2)
@@ -66,18 +66,21 @@ add-requires c κs =
       k .carry-out .ensures .1 .1,
     )
 
+changes-requires : tie.Need-changes-requires Inv-loop μ-loop
+changes-requires c κs = search needs
+
 loop-less : tie.Need-loop-less Inv-loop μ-loop
 loop-less c =
-    let w = ahead (c .before .before .before .before .before .before .before) in
+    let w = ahead (c .before .before .before .before .before .before .before .before) in
     omega (arith, w .0, w .1)
 
 loop-again : tie.Need-loop-again Inv-loop μ-loop
 loop-again c =
-    let h = c .before .before .before .before .before .before .before in
-    let k = c .before .before .before .before .carry-out in
-    let l = c .before .before .before .before .before .before .before .before .before .before .loop in
-    counting-turn _ _ _ (l .t) (l .at) (l .inv) _ (h .before .before .hand-out .ensures) _ _ (h .h .given .1) (c .before .before .before .before .before .before .before .before .before .before .before .before .before .before .before .before .before .before .pre .2) _ (k .result) _
-    (k .ensures .0) (k .ensures .1 .0) (k .ensures .1 .1) (c .add .ensures)
+    let h = c .before .before .before .before .before .before .before .before in
+    let k = c .before .before .before .before .before .carry-out in
+    let l = c .before .before .before .before .before .before .before .before .before .before .before .loop in
+    counting-turn _ _ _ (l .t) (l .changed) (l .at) (l .inv) _ (h .before .before .hand-out .ensures) _ _ (h .h .given .1) (c .before .before .before .before .before .before .before .before .before .before .before .before .before .before .before .before .before .before .before .pre .2) _ (k .result) _ _
+    (k .ensures .0) (k .ensures .1 .0) (k .ensures .1 .1) (c .before .add .ensures) (c .changes .ensures)
 
 pub take-spec : {M : Type 1} → statement M
 take-spec =
@@ -93,5 +96,6 @@ take-spec =
     returns
     carry-out-requires
     add-requires
+    changes-requires
     loop-less
     loop-again)

@@ -1,0 +1,35 @@
+-- Where no answer comes with a change, memory is as it was.
+use Prim.Native.Nat.{ℕ, zero, suc}
+use mathlib.Core.Path.{_≡_, refl}
+use mathlib.Core.Bool.{Bool, true, false, _||_, true≢false}
+use mathlib.Core.List.{List, [], _∷_}
+use Rattle.meaning.specs.Checks.{firstFailed, settle}
+use Rattle.meaning.specs.Operation.{Op, capabilities, read, set, subscribe, unsubscribe}
+use Rattle.meaning.specs.Table.{place}
+use Rattle.meaning.specs.Memory.{store}
+use Rattle.meaning.specs.Step.{update, updateError, setChecks, stored, setAnswer, setMemory, step, answer, after, answers}
+use Rattle.command.specs.Answers.{mayChange, anyChange}
+
+neither : (a b : Bool) → (a || b) ≡ false → (a ≡ false) × (b ≡ false)
+neither true b e = absurd (true≢false e)
+neither false b e = (refl, e)
+
+pub step-unchanged : (m : List ℕ) (o : Op) → mayChange (answer m o) ≡ false → step m o ≡ m
+unfolding mayChange answer step setAnswer setMemory settle
+step-unchanged m capabilities e = refl
+step-unchanged m (read n) e = refl
+step-unchanged m (set n v) e = go (firstFailed (setChecks m n v)) e
+  where
+    go : (c : ℕ) → mayChange (settle c (update n v) (updateError n)) ≡ false → settle c (store m (place n) (stored m (place n) v)) (λ _. m) ≡ m
+    go zero e = absurd (true≢false e)
+    go (suc c) e = refl
+step-unchanged m (subscribe n) e = absurd (true≢false e)
+step-unchanged m (unsubscribe n) e = absurd (true≢false e)
+
+pub after-unchanged : (m : List ℕ) (os : List Op) → anyChange (answers m os) ≡ false → after m os ≡ m
+unfolding anyChange answers after
+after-unchanged m [] e = refl
+after-unchanged m (o ∷ os) e =
+    let n = neither (mayChange (answer m o)) _ e in
+    let s = step-unchanged m o (n .0) in
+    rw s (after-unchanged m os (rw s at (n .1)))
