@@ -14,9 +14,8 @@ use Rattle.meaning.specs.Block.{permits, joinedBlock}
 use Rattle.meaning.specs.Memory.{cell, room, size, present, body, pending, store, remark, fourPresent, sound}
 use Rattle.meaning.specs.Step.{block, commits, permitted, setChecks, stored, setMemory, subscribeMemory, unsubscribeMemory, setAnswer, readChecks, readAnswer, value, readError, update, updateError, shown}
 use Rattle.meaning.proofs.Sound.{opened, entry-of, four-at}
-use Rattle.meaning.proofs.Kept.{permits-length}
 use Rattle.schedule.specs.Rules.{agrees}
-use Rattle.schedule.proofs.Blocks.{commits-agrees, joined-length}
+use Rattle.schedule.proofs.Blocks.{permitted-base, permitted-count, permitted-list, permitted-ratio, permitted-length, commits-agrees}
 
 pub long-of : (m : List ℕ) → sound m ≡ true → length m ≡ memoryLength
 long-of m s = opened m s .long
@@ -37,25 +36,40 @@ pub one-length : (rowAt adminBaseTime .most ≡ 10) × (rowAt adminControlListLe
 unfolding rowAt rows
 one-length = (refl, refl, refl)
 
+pub record FourPermitted (m : List ℕ) : Type 0 where
+  pub base : permits (rowAt adminBaseTime) (body m adminBaseTime) ≡ true
+  pub count : permits (rowAt adminControlListLength) (body m adminControlListLength) ≡ true
+  pub list : permits (rowAt adminControlList) (body m adminControlList) ≡ true
+  pub ratio : permits (rowAt adminCycleTime) (body m adminCycleTime) ≡ true
+
+pub four-permitted : (m : List ℕ) → sound m ≡ true → fourPresent m ≡ true → FourPermitted m
+four-permitted m s f =
+    record {
+      base = body-permitted m adminBaseTime s (omega arith) (four-at m 0 f);
+      count = body-permitted m adminControlListLength s (omega arith) (four-at m 1 f);
+      list = body-permitted m adminControlList s (omega arith) (four-at m 2 f);
+      ratio = body-permitted m adminCycleTime s (omega arith) (four-at m 3 f);
+    }
+
 pub record FourLengths (m : List ℕ) : Type 0 where
   pub base : length (body m adminBaseTime) ≡ 10
   pub count : length (body m adminControlListLength) ≡ 4
   pub list : length (body m adminControlList) ≤ 448
   pub ratio : length (body m adminCycleTime) ≡ 8
 
-pub four-lengths : (m : List ℕ) → sound m ≡ true → fourPresent m ≡ true → FourLengths m
-unfolding rowAt rows
-four-lengths m s f =
-    let b = permits-length (rowAt 2) (body m 2) (body-permitted m 2 s (omega arith) (four-at m 0 f)) in
-    let c = permits-length (rowAt 3) (body m 3) (body-permitted m 3 s (omega arith) (four-at m 1 f)) in
-    let l = permits-length (rowAt 4) (body m 4) (body-permitted m 4 s (omega arith) (four-at m 2 f)) in
-    let r = permits-length (rowAt 5) (body m 5) (body-permitted m 5 s (omega arith) (four-at m 3 f)) in
-    record { base = omega (arith, b); count = omega (arith, c); list = l .1; ratio = omega (arith, r) }
+pub four-lengths : (m : List ℕ) → FourPermitted m → FourLengths m
+four-lengths m p =
+    record {
+      base = permitted-base (body m adminBaseTime) (p .base) .0;
+      count = permitted-count (body m adminControlListLength) (p .count) .0;
+      list = permitted-list (body m adminControlList) (p .list) .0;
+      ratio = permitted-ratio (body m adminCycleTime) (p .ratio) .0;
+    }
 
-pub block-length : (m : List ℕ) → FourLengths m → length (block m) ≡ 22 + length (body m adminControlList)
+pub block-length : (m : List ℕ) → FourPermitted m → length (block m) ≡ 22 + length (body m adminControlList)
 unfolding block
-block-length m f =
-    omega (arith, joined-length (body m adminBaseTime) (body m adminControlListLength) (body m adminControlList) (body m adminCycleTime), f .base, f .count, f .ratio)
+block-length m p =
+    permitted-length (body m adminBaseTime) (body m adminControlListLength) (body m adminControlList) (body m adminCycleTime) (p .base) (p .count) (p .list) (p .ratio)
 
 pub commit-unset : (m v : List ℕ) → fourPresent m ≡ false → commits m v ≡ false
 commit-unset m v e = rw (commits-agrees m v, e)

@@ -100,6 +100,23 @@ pub fn walk(v: &[u8]) -> Walked
     Walked { ok, sum }
 }
 
+// The sum of a list's intervals alone: a walk tests each entry as well, and the tests are what costs.
+pub fn intervals(v: &[u8]) -> u64
+    requires { ⌜ length (now v) / 7 ≤ 64 ⌝ }
+    ensures { λ r. ⌜ r ≡ intervals (entriesOf (now (v .entry))) ⌝ }
+{
+    let n = v.len() / 7;
+    let mut sum: u64 = 0;
+    let mut k: usize = 0;
+    while k < n {
+        let at = k * 7;
+        let e = &v[at..at + 7];
+        sum += octets::get32(e, 3);
+        k += 1;
+    }
+    sum
+}
+
 // A control list: entries of 7.
 pub fn list_ok(v: &[u8]) -> bool
     requires { ⌜ length (now v) ≤ 448 ⌝ }

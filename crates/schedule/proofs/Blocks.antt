@@ -1,4 +1,4 @@
--- Blocks: four values joined and cut apart again, form and fit by four values, a turn of the sums, the sums that a value spells.
+-- Blocks: four values joined and cut apart again, form and fit by four values, what is left of it for values that their rows permit, the sums that a value spells.
 use Prim.Native.Nat.{ℕ, _+_, _-_, _/_, _%_, _<_, _≤_}
 use native.Mathlib.Omega.{arith}
 use native.Mathlib.Numerals.{add-one}
@@ -10,12 +10,14 @@ use lib.Seq.{drop-cons, take-all, drop-drop}
 use lib.Dec.{eqb, leb}
 use borrow.Author.Tests.{eqb-true, eq-eqb, leb-true, le-leb}
 use Rattle.meaning.specs.Octets.{octet, at16, be16, splice, every, same}
-use Rattle.meaning.specs.Block.{number, timeOk, entriesOf, eachOk, listOk, intervals, ratioOk, cycle, sumsOf, sums, joinedBlock, formAndFit}
+use Rattle.meaning.specs.Table.{rows, rowAt, adminBaseTime, adminControlListLength, adminControlList, adminCycleTime}
+use Rattle.meaning.specs.Block.{number, timeOk, entriesOf, eachOk, listOk, intervals, ratioOk, cycle, sumsOf, sums, joinedBlock, formAndFit, keeps, permits}
 use Rattle.meaning.specs.Memory.{fourPresent}
 use Rattle.meaning.specs.Step.{block, commits}
 use Rattle.meaning.proofs.Lists.{be16-at16}
 use Rattle.meaning.proofs.Sums.{first-sum, second-sum, first-shown, second-shown}
 use Rattle.meaning.proofs.Tests.{and-left, and-right, and-both, every-at, alike, same-true, same-refl}
+use Rattle.meaning.proofs.Kept.{permits-length}
 use Rattle.meaning.proofs.Commit.{form-joined}
 use Rattle.octets.proofs.Splices.{then}
 use Rattle.schedule.specs.Rules.{agrees}
@@ -175,3 +177,43 @@ in-order false false c = refl
 pub commits-agrees : (m v : List ℕ) → commits m v ≡ (fourPresent m && agrees (block m) v)
 unfolding commits agrees every
 commits-agrees m v = refl
+
+-- ---- values that their rows permit: length and rule of each, and the block that they make
+
+pub permitted-base : (b : List ℕ) → permits (rowAt adminBaseTime) b ≡ true → (length b ≡ 10) × (timeOk b ≡ true)
+unfolding permits rowAt rows keeps
+permitted-base b p =
+    let h = permits-length (rowAt adminBaseTime) b p in
+    (omega arith, every-at _ 2 p)
+
+pub permitted-count : (c : List ℕ) → permits (rowAt adminControlListLength) c ≡ true → (length c ≡ 4) × (number c ≤ 64)
+unfolding permits rowAt rows keeps
+permitted-count c p =
+    let h = permits-length (rowAt adminControlListLength) c p in
+    (omega arith, leb-true _ _ (and-right (leb 0 (number c)) _ (every-at _ 2 p)))
+
+pub permitted-list : (l : List ℕ) → permits (rowAt adminControlList) l ≡ true → (length l ≤ 448) × (listOk l ≡ true)
+unfolding permits rowAt rows keeps
+permitted-list l p = (permits-length (rowAt adminControlList) l p .1, every-at _ 2 p)
+
+pub permitted-ratio : (r : List ℕ) → permits (rowAt adminCycleTime) r ≡ true → (length r ≡ 8) × (ratioOk r ≡ true)
+unfolding permits rowAt rows keeps
+permitted-ratio r p =
+    let h = permits-length (rowAt adminCycleTime) r p in
+    (omega arith, every-at _ 2 p)
+
+module _ (b c l r : List ℕ) (pb : permits (rowAt adminBaseTime) b ≡ true) (pc : permits (rowAt adminControlListLength) c ≡ true)
+    (pl : permits (rowAt adminControlList) l ≡ true) (pr : permits (rowAt adminCycleTime) r ≡ true) where
+  pub permitted-length : length (joinedBlock b c l r) ≡ 22 + length l
+  permitted-length = omega (arith, joined-length b c l r, permitted-base b pb .0, permitted-count c pc .0, permitted-ratio r pr .0)
+
+  -- each keeps its rule, so form and fit is how they fit one another, by what was found of them
+  pub fit-left : {y : Bool} {n s : ℕ} → n ≡ number c → s ≡ intervals (entriesOf l) → y ≡ leb s (cycle r)
+      → (leb 1 (length l / 7) && (eqb n (length l / 7) && y)) ≡ formAndFit (joinedBlock b c l r)
+  unfolding every
+  fit-left fn fs fy =
+      let hb = permitted-base b pb in
+      let hc = permitted-count c pc in
+      let hr = permitted-ratio r pr in
+      rw (form-joined b c l r (hb .0) (hc .0) (hr .0), le-leb 22 (22 + length l) (omega arith), hb .1, le-leb (number c) 64 (hc .1), permitted-list l pl .1, hr .1, fn, fy, fs)
+      (in-order (leb 1 (length l / 7)) (eqb (number c) (length l / 7)) (leb (intervals (entriesOf l)) (cycle r)))

@@ -1,13 +1,14 @@
 // Schedules: which value keeps which rule, the two sums over a block, its form and fit, a commit's conditions.
 // A block is the values of 0004, 0005, 0006 and 0007 joined; every answer is that of a definition of `meaning`.
-ghost use Prim.Native.Nat.{_+_, _*_, _%_, _≤_};
+ghost use Prim.Native.Nat.{ℕ, _+_, _*_, _%_, _≤_};
 ghost use mathlib.Core.Path.{_≡_};
 ghost use mathlib.Core.Bool.{true, _&&_};
+ghost use mathlib.Core.List.{List, _++_};
 ghost use lib.ListN.{length};
 ghost use lib.Dec.{eqb};
-ghost use mathlib.Core.List.{_++_};
 ghost use Rattle.meaning.specs.Octets.{be16, splice, same};
-ghost use Rattle.meaning.specs.Block.{sumsFrom, sumsOf, sums, joinedBlock, formAndFit, keeps};
+ghost use Rattle.meaning.specs.Table.{rowAt, adminBaseTime, adminControlListLength, adminControlList, adminCycleTime};
+ghost use Rattle.meaning.specs.Block.{sumsFrom, sumsOf, sums, joinedBlock, formAndFit, keeps, permits};
 ghost use Rattle.schedule.specs.Rules.{ruleOf, asked, agrees};
 
 // The rules of the table's rows.
@@ -95,6 +96,17 @@ pub fn form_and_fit(b: &[u8]) -> bool
     values_fit(&b[0..10], &b[10..14], &b[14..n - 8], &b[n - 8..n])
 }
 
+// Form and fit of the block that a base time and these values make, each permitted by its row. They keep their rules, so what
+// is left is how they fit one another: 0005 holds n, n is at least 1, the intervals fit the cycle. No base time enters that.
+fn fit_together(count: &[u8], list: &[u8], ratio: &[u8]) -> bool
+    requires { ⌜ (permits (rowAt adminControlListLength) (now count) ≡ true) × (permits (rowAt adminControlList) (now list) ≡ true) × (permits (rowAt adminCycleTime) (now ratio) ≡ true) ⌝ }
+    ensures { λ r. ⌜ ((base : List ℕ) → permits (rowAt adminBaseTime) base ≡ true → r ≡ formAndFit (joinedBlock base (now (count .entry)) (now (list .entry)) (now (ratio .entry)))) ⌝ }
+{
+    let n = list.len() / 7;
+    let sum = rules::intervals(list);
+    (1 <= n) & ((rules::number(count) == n as u64) & rules::fits_cycle(sum, ratio))
+}
+
 // Whether a value of a length that its row permits keeps a rule.
 pub fn keeps(rule: Rule, v: &[u8]) -> bool
     requires { ⌜ asked (ruleOf rule) (length (now v)) ≡ true ⌝ }
@@ -141,8 +153,8 @@ fn join(base: &[u8], count: &[u8], list: &[u8], ratio: &[u8], block: &mut [u8]) 
     octets::append(block, at, ratio)
 }
 
-// A commit's conditions on four values that are present: form and fit, and sums that agree. The block that they make is
-// left at the start of a room.
+// A commit's conditions on four values that are present and that their rows permit, as sound memory holds them: form and fit,
+// and sums that agree. The block that they make is left at the start of a room.
 pub fn commit(
     base: &[u8],
     count: &[u8],
@@ -151,11 +163,11 @@ pub fn commit(
     value: &[u8],
     block: &mut [u8],
 ) -> bool
-    requires { ⌜ (length (now base) ≡ 10) × (length (now count) ≡ 4) × (length (now ratio) ≡ 8) × (22 + length (now list) ≤ length (now block)) ⌝ }
+    requires { ⌜ (permits (rowAt adminBaseTime) (now base) ≡ true) × (permits (rowAt adminControlListLength) (now count) ≡ true) × (permits (rowAt adminControlList) (now list) ≡ true) × (permits (rowAt adminCycleTime) (now ratio) ≡ true) × (22 + length (now list) ≤ length (now block)) ⌝ }
     ensures { λ r. ⌜ r ≡ agrees (joinedBlock (now (base .entry)) (now (count .entry)) (now (list .entry)) (now (ratio .entry))) (now (value .entry)) ⌝ }
     ensures { λ _. ⌜ now (block .exit) ≡ splice (now (block .entry)) 0 (joinedBlock (now (base .entry)) (now (count .entry)) (now (list .entry)) (now (ratio .entry))) ⌝ }
 {
     let n = join(base, count, list, ratio, block);
     let joined = &block[0..n];
-    form_and_fit(joined) & sums_agree(joined, value)
+    fit_together(count, list, ratio) & sums_agree(joined, value)
 }

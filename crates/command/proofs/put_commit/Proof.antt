@@ -8,13 +8,13 @@ use mathlib.Core.List.{List}
 use lib.ListN.{length, take}
 use borrow.Author.Needs.{needs}
 use Rattle.meaning.specs.Memory.{body, fourPresent, store}
-use Rattle.meaning.specs.Table.{adminBaseTime, adminControlListLength, adminControlList, adminCycleTime, commit}
-use Rattle.meaning.specs.Block.{joinedBlock}
+use Rattle.meaning.specs.Table.{rowAt, adminBaseTime, adminControlListLength, adminControlList, adminCycleTime, commit}
+use Rattle.meaning.specs.Block.{joinedBlock, permits}
 use Rattle.meaning.specs.Step.{block, commits}
 use Rattle.meaning.proofs.Tests.{denied, affirmed}
 use Rattle.octets.proofs.Splices.{splice-front}
 use Rattle.schedule.specs.Rules.{agrees}
-use Rattle.command.proofs.Sets.{long-of, FourLengths, four-lengths, block-length, commit-unset, commit-is, block-found, block-in-room, fills, one-length}
+use Rattle.command.proofs.Sets.{long-of, FourPermitted, four-permitted, FourLengths, four-lengths, block-length, commit-unset, commit-is, block-found, block-in-room, fills, one-length}
 use Rattle.command.proofs.put_commit.Statement.{statement}
 use Rattle.command.proofs.put_commit.Tie as tie
 
@@ -28,8 +28,11 @@ module _ (c : tie.After-joined) where
       let e = c .before .before .before .before .before .before in
       sym (e .before .four-present .ensures) ∙ affirmed _ (e .if1 .left)
 
+  permitted : FourPermitted copy
+  permitted = four-permitted copy (c .before .before .before .before .before .before .before .before .before .before .before .pre) four
+
   lengths : FourLengths copy
-  lengths = four-lengths copy (c .before .before .before .before .before .before .before .before .before .before .before .pre) four
+  lengths = four-lengths copy permitted
 
   base-is : c .before .before .before .before .room .result .now ≡ body copy adminBaseTime
   base-is =
@@ -70,7 +73,7 @@ module _ (c : tie.After-commit) where
   tested = asked ∙ ap (λ (b : List ℕ). agrees b sent) found ∙ sym (commit-is (copy (c .before)) sent (four (c .before)))
 
   size : 22 + length (c .before .before .before .body .result .now) ≡ length (block (copy (c .before)))
-  size = omega (arith, block-length (copy (c .before)) (lengths (c .before)), ap length (c .before .before .before .body .ensures))
+  size = omega (arith, block-length (copy (c .before)) (permitted (c .before)), ap length (c .before .before .before .body .ensures))
 
   -- the block stands at the start of its room
   stands : take (22 + length (c .before .before .before .body .result .now) - 0) room ≡ block (copy (c .before))
@@ -108,8 +111,13 @@ slice-aggregate-commit c = search needs
 
 commit-requires : tie.Need-commit-requires
 commit-requires c κs =
-    let l = lengths c in
-    (ap length (base-is c) ∙ l .base, ap length (count-is c) ∙ l .count, ap length (ratio-is c) ∙ l .ratio, omega (arith, ap length (list-is c), l .list))
+    let p = permitted c in (
+      ap (permits (rowAt adminBaseTime)) (base-is c) ∙ p .base,
+      ap (permits (rowAt adminControlListLength)) (count-is c) ∙ p .count,
+      ap (permits (rowAt adminControlList)) (list-is c) ∙ p .list,
+      ap (permits (rowAt adminCycleTime)) (ratio-is c) ∙ p .ratio,
+      omega (arith, ap length (list-is c), lengths c .list),
+    )
 
 same-length-2 : tie.Need-same-length-2
 same-length-2 c = search needs

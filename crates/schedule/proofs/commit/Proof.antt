@@ -12,7 +12,7 @@ use Rattle.meaning.specs.Octets.{every, same}
 use Rattle.meaning.specs.Block.{sums, joinedBlock, formAndFit}
 use Rattle.octets.proofs.Splices.{splice-front}
 use Rattle.schedule.specs.Rules.{agrees}
-use Rattle.schedule.proofs.Blocks.{joined-length, in-order}
+use Rattle.schedule.proofs.Blocks.{permitted-length, in-order}
 use Rattle.schedule.proofs.commit.Statement.{statement}
 use Rattle.schedule.proofs.commit.Tie as tie
 
@@ -20,7 +20,7 @@ join-requires : tie.Need-join-requires
 join-requires c κs =
     let s = c .before .before .before .before .before .before .before in
     let a = s .args in
-    omega (arith, joined-length (a .base .now) (a .count .now) (a .list .now) (a .ratio .now), s .pre .0, s .pre .1, s .pre .2, s .pre .3)
+    omega (arith, permitted-length (a .base .now) (a .count .now) (a .list .now) (a .ratio .now) (s .pre .0) (s .pre .1) (s .pre .2) (s .pre .3), s .pre .4)
 
 sub-joined : tie.Need-sub-joined
 sub-joined c = search needs
@@ -32,13 +32,15 @@ part-joined-end : tie.Need-part-joined-end
 part-joined-end c =
     let s = c .before .before .before .before .before .before .before .before .before .before .before in
     let a = s .args in
-    let j = joined-length (a .base .now) (a .count .now) (a .list .now) (a .ratio .now) in
+    let j = permitted-length (a .base .now) (a .count .now) (a .list .now) (a .ratio .now) (s .pre .0) (s .pre .1) (s .pre .2) (s .pre .3) in
     let h : c .before .before .before .join .result ≤ length (a .block .now) =
-    omega (arith, j, s .pre .0, s .pre .1, s .pre .2, s .pre .3, c .before .before .before .join .ensures .0) in
+    omega (arith, j, s .pre .4, c .before .before .before .join .ensures .0) in
     search needs
 
-form-and-fit-requires : tie.Need-form-and-fit-requires
-form-and-fit-requires c κs = search needs
+fit-together-requires : tie.Need-fit-together-requires
+fit-together-requires c κs =
+    let s = c .before .before .before .before .before .before .before .before .before .before .before .before in
+    (s .pre .1, s .pre .2, s .pre .3)
 
 sums-agree-requires : tie.Need-sums-agree-requires
 sums-agree-requires c κs = search needs
@@ -50,12 +52,13 @@ returns : tie.Need-returns
 unfolding agrees every
 returns c =
     let k = c .before .before .before .before .before .before in
-    let a = c .before .before .before .before .before .before .before .before .before .before .before .before .before .before .args in
+    let s = c .before .before .before .before .before .before .before .before .before .before .before .before .before .before in
+    let a = s .args in
     let w = joinedBlock (a .base .now) (a .count .now) (a .list .now) (a .ratio .now) in
     let v = a .value .now in
     let p : take (k .join .result - 0) (k .join .last .1 .1 .1 .1 .0) ≡ w =
     rw (sub-zero, k .join .ensures .0, k .join .ensures .1) (splice-front (a .block .now) w) in
-    let f : c .before .form-and-fit .result ≡ formAndFit w = c .before .form-and-fit .ensures ∙ ap formAndFit p in
+    let f : c .before .fit-together .result ≡ formAndFit w = c .before .fit-together .ensures (a .base .now) (s .pre .0) in
     let q : c .sums-agree .result ≡ (eqb (length v) 4 && same v (sums w)) =
     c .sums-agree .ensures ∙ ap (λ (t : List ℕ). eqb (length v) 4 && same v (sums t)) p in
     (rw (f, q) (in-order (formAndFit w) (eqb (length v) 4) (same v (sums w))), k .join .ensures .1)
@@ -68,7 +71,7 @@ commit-spec =
     sub-joined
     part-joined-start
     part-joined-end
-    form-and-fit-requires
+    fit-together-requires
     sums-agree-requires
     same-length
     returns)
