@@ -6,14 +6,18 @@ use std::process::ExitCode;
 use second::program;
 use second::traffic::{self, Kind};
 
-const USAGE: &str = "usage: traffic KIND SEED COUNT; KIND is frames, mixed or empty (for \
-bridge), script or calls (for rig), SEED the number that the stream follows from, COUNT how many \
-frames or records it has";
+fn usage() -> String {
+    format!(
+        "usage: traffic KIND SEED COUNT; KIND is {} (these two for rig, all others for bridge), SEED \
+the number that the stream follows from, COUNT how many frames or records it has",
+        traffic::words()
+    )
+}
 
 fn main() -> ExitCode {
     let arguments = program::arguments();
     let [kind, seed, count] = arguments.as_slice() else {
-        return program::refuse("traffic", USAGE);
+        return program::refuse("traffic", &usage());
     };
     match parse(kind, seed, count) {
         Ok((kind, seed, count)) => program::finish("traffic", run(kind, seed, count)),

@@ -10,7 +10,8 @@ pub mod time;
 use std::io::{self, Write};
 use std::{fmt, fs};
 
-use crate::traffic::{self, Kind};
+use crate::traffic;
+use crate::traffic::measured::{Stream, STREAMS};
 use gate::{Gate, Part};
 use table::{Row, Table};
 
@@ -23,8 +24,8 @@ has the message call under the name CALL, LOG what a gate printed";
 
 /// Frames of a stream where no count is given.
 const COUNT: u64 = 1_000_000;
-/// How many times the time of the second bridge the other may take.
-const TIMES: f64 = 2.0;
+/// The seed of the streams, which are the same in every measurement.
+const SEED: u64 = 1;
 /// Octets of stack that a message call may take: the working copy, and all else.
 const STACK: [i64; 2] = [2_100, 1_024];
 /// Seconds that the gate may take.
@@ -116,28 +117,27 @@ pub fn run<W: Write>(plan: &Plan, output: &mut W) -> io::Result<()> {
 /// The bridge's times to those of the second one, or why they cannot be compared here.
 fn time_rows(plan: &Plan) -> io::Result<Vec<Row>> {
     let obstacle = processor::obstacle(&plan.programs)?;
-    let count = plan.count;
-    // A stream of empty frames has one before them that fills memory.
-    let streams = [
-        (Kind::Mixed, count, "mixed"),
-        (Kind::Empty, count + 1, "empty"),
-    ];
-    let row = |(kind, frames, name)| {
-        let (ratio, from) = match &obstacle {
-            Some(why) => (None, format!("not measured: {why}")),
-            None => {
-                let ratio = time::measure(&plan.programs, kind, frames)?;
-                (Some(ratio.medians), ratio.to_string())
-            }
+    let row = |stream: &Stream| {
+        let mut row = Row {
+            what: format!("time to the second's: {}", stream.what),
+            ratio: None,
+            limit: Some(stream.limit.ratio()),
+            each: None,
+            from: String::new(),
         };
-        Ok(Row {
-            what: format!("time of the bridge to the second's, {count} {name} frames"),
-            ratio,
-            limit: Some(TIMES),
-            from,
-        })
+        if let Some(why) = &obstacle {
+            row.from = format!("not measured: {why}");
+            return Ok(row);
+        }
+        let messages = (plan.count / stream.one_in).max(1);
+        let frames = stream.before() + messages;
+        let times = time::measure(&plan.programs, |sink| stream.write(SEED, frames, sink))?;
+        row.ratio = Some(times.ratio());
+        row.each = Some(times.each(messages));
+        row.from = format!("{messages} messages, {times}");
+        Ok(row)
     };
-    streams.into_iter().map(row).collect()
+    STREAMS.iter().map(row).collect()
 }
 
 fn stack_row(exported: &Exported) -> io::Result<Row> {
@@ -152,6 +152,7 @@ fn stack_row(exported: &Exported) -> io::Result<Row> {
         what: "stack of the message call to its limit".into(),
         ratio: Some(octets as f64 / (copy + beside) as f64),
         limit: Some(1.0),
+        each: None,
         from: format!("{octets} of {copy} + {beside} octets: {deepest}"),
     })
 }
@@ -170,6 +171,7 @@ fn gate_rows(path: &str) -> io::Result<Vec<Row>> {
         what: "time of the gate to ten minutes".into(),
         ratio: gate.whole.map(|seconds| seconds / GATE),
         limit: Some(1.0),
+        each: None,
         from,
     };
     let share = |part: &Part| share_row(part, gate.all.seconds());
@@ -190,6 +192,7 @@ fn share_row(part: &Part, all: u64) -> Row {
         what: format!("share of {} in the gate", part.name),
         ratio: Some(share(part.seconds())),
         limit: None,
+        each: None,
         from: format!("check {check:.2}{count}"),
     }
 }

@@ -7,36 +7,45 @@ use std::time::{Duration, Instant};
 use std::{array, env, fmt};
 
 use super::told;
-use crate::traffic::{self, Kind};
 
 /// Runs of each program on a stream; odd, so that one of them is the median.
 pub const RUNS: usize = 5;
-/// The seed of the streams, which are the same in every measurement.
-const SEED: u64 = 1;
 
-/// The times of a bridge to those of the second one.
+/// The times of a bridge and of the second one for a stream.
 #[derive(Debug, PartialEq)]
-pub struct Ratio {
-    /// The ratio of the medians.
-    pub medians: f64,
+pub struct Times {
+    /// The median of each.
+    pub medians: [Duration; 2],
     /// The lowest and the highest ratio of two runs of one turn.
     pub turns: [f64; 2],
 }
 
-impl Ratio {
+impl Times {
     /// From the times of the bridge and of the second one, each in the order of the turns.
-    pub fn of(times: [[Duration; RUNS]; 2]) -> Ratio {
+    pub fn of(times: [[Duration; RUNS]; 2]) -> Times {
         let [bridge, second] = times;
         let mut turns: [f64; RUNS] = array::from_fn(|turn| ratio(bridge[turn], second[turn]));
         turns.sort_unstable_by(f64::total_cmp);
-        Ratio {
-            medians: ratio(median(bridge), median(second)),
+        Times {
+            medians: times.map(median),
             turns: [turns[0], turns[RUNS - 1]],
         }
     }
+
+    /// The ratio of the medians.
+    pub fn ratio(&self) -> f64 {
+        let [bridge, second] = self.medians;
+        ratio(bridge, second)
+    }
+
+    /// Microseconds that each takes for one of so many messages.
+    pub fn each(&self, messages: u64) -> [f64; 2] {
+        self.medians
+            .map(|median| median.as_secs_f64() * 1e6 / messages as f64)
+    }
 }
 
-impl fmt::Display for Ratio {
+impl fmt::Display for Times {
     fn fmt(&self, f: &mut fmt::Formatter) -> fmt::Result {
         let [low, high] = self.turns;
         write!(
@@ -55,9 +64,12 @@ fn median(mut times: [Duration; RUNS]) -> Duration {
     times[RUNS / 2]
 }
 
-/// Measures the programs on a stream.
-pub fn measure(programs: &[String; 2], kind: Kind, count: u64) -> io::Result<Ratio> {
-    let mut stream = stream(kind, count)?;
+/// Measures the programs on the stream that `write` writes.
+pub fn measure(
+    programs: &[String; 2],
+    write: impl FnOnce(&mut BufWriter<File>) -> io::Result<()>,
+) -> io::Result<Times> {
+    let mut stream = stream(write)?;
     let size = stream.stream_position()?;
     let mut times = [[Duration::ZERO; RUNS]; 2];
     for turn in 0..RUNS {
@@ -65,12 +77,12 @@ pub fn measure(programs: &[String; 2], kind: Kind, count: u64) -> io::Result<Rat
             times[turn] = time(program, &mut stream, size)?;
         }
     }
-    Ok(Ratio::of(times))
+    Ok(Times::of(times))
 }
 
 /// A file that holds a stream, at its end. It has no name any more, so that it is gone when the
 /// program ends, in whatever way.
-fn stream(kind: Kind, count: u64) -> io::Result<File> {
+fn stream(write: impl FnOnce(&mut BufWriter<File>) -> io::Result<()>) -> io::Result<File> {
     let folder = env::temp_dir();
     let path = folder.join(format!("measure-{}", process::id()));
     let written = || {
@@ -82,7 +94,7 @@ fn stream(kind: Kind, count: u64) -> io::Result<File> {
             .open(&path)?;
         fs::remove_file(&path)?;
         let mut sink = BufWriter::with_capacity(64 * 1024, file);
-        traffic::write(kind, SEED, count, &mut sink)?;
+        write(&mut sink)?;
         Ok(sink.into_inner()?)
     };
     written().map_err(|error| told(format_args!("cannot write to {folder:?}"), &error))

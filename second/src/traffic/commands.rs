@@ -59,7 +59,8 @@ impl Operations {
         message
     }
 
-    fn named(&mut self, code: u8, name: u16) {
+    /// Adds an operation that is a code and a name.
+    pub fn named(&mut self, code: u8, name: u16) {
         self.0.push(code);
         self.0.extend(name.to_be_bytes());
     }

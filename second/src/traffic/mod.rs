@@ -1,8 +1,9 @@
 //! Seeded traffic: streams of frames for `bridge` and scripts for `rig`, the same on every machine.
 
+pub mod acts;
 mod commands;
 mod dice;
-mod measured;
+pub mod measured;
 mod memories;
 mod schedules;
 mod script;
@@ -13,6 +14,7 @@ use std::str::FromStr;
 
 use crate::{take_message, FRESH};
 use dice::Dice;
+use measured::{Stream, STREAMS};
 
 /// One stream in this many ends with a piece that is cut.
 const CUT_STREAMS: usize = 4;
@@ -24,10 +26,8 @@ const ROOM: usize = 4_096;
 pub enum Kind {
     /// Frames for `bridge`, of every kind and often faulty.
     Frames,
-    /// Frames for `bridge` that are all carried out, to be measured.
-    Mixed,
-    /// Empty frames for `bridge` after one that fills memory, to be measured.
-    Empty,
+    /// Frames for `bridge`, to be measured.
+    Measured(&'static Stream),
     /// Records for `rig`.
     Script,
     /// Records for `rig` that make more calls than they lend and show, to be stored.
@@ -40,15 +40,20 @@ impl FromStr for Kind {
     fn from_str(word: &str) -> Result<Kind, String> {
         match word {
             "frames" => Ok(Kind::Frames),
-            "mixed" => Ok(Kind::Mixed),
-            "empty" => Ok(Kind::Empty),
             "script" => Ok(Kind::Script),
             "calls" => Ok(Kind::Calls),
-            _ => Err(format!(
-                "KIND is frames, mixed, empty, script or calls, not {word:?}"
-            )),
+            _ => Stream::named(word)
+                .map(Kind::Measured)
+                .ok_or_else(|| format!("KIND is {}, not {word:?}", words())),
         }
     }
+}
+
+/// The words of all kinds.
+pub fn words() -> String {
+    let measured = STREAMS.iter().map(|stream| stream.word);
+    let words: Vec<&str> = ["frames"].into_iter().chain(measured).collect();
+    format!("{}, script or calls", words.join(", "))
 }
 
 /// Reads a number of the given meaning.
@@ -62,8 +67,7 @@ pub fn write<W: Write>(kind: Kind, seed: u64, count: u64, sink: &mut W) -> io::R
     let mut dice = Dice::new(seed);
     match kind {
         Kind::Frames => write_frames(&mut dice, count, sink),
-        Kind::Mixed => measured::mixed(&mut dice, count, sink),
-        Kind::Empty => measured::empty(&mut dice, count, sink),
+        Kind::Measured(stream) => stream.write(seed, count, sink),
         Kind::Script => script::write(&mut dice, script::OFTEN, count, sink),
         Kind::Calls => script::write(&mut dice, script::SELDOM, count, sink),
     }

@@ -8,8 +8,6 @@ use crate::port;
 use crate::table::{COMMIT, PARTS, TABLE};
 
 const BILLION: u128 = 1_000_000_000;
-/// Entries of the longest list.
-const MOST_ENTRIES: usize = 64;
 
 /// The values of 0004, 0005, 0006 and 0007.
 pub type Values = [Vec<u8>; PARTS.len()];
@@ -97,20 +95,21 @@ pub fn operations(dice: &mut Dice, memory: &[u8]) -> Operations {
     operations
 }
 
-/// Operations that set and commit a schedule with as many entries as a list can have, in the longest
-/// cycle, which every list fits.
-pub fn longest(dice: &mut Dice) -> Operations {
+/// A schedule of `count` entries in the longest cycle, which every list fits.
+pub fn roomy(dice: &mut Dice, count: usize) -> Values {
     let base_time = values::permitted(dice, &TABLE[PARTS[0]]);
-    let list = list(dice, MOST_ENTRIES);
-    let count = (MOST_ENTRIES as u32).to_be_bytes();
+    let list = list(dice, count);
+    let count = (count as u32).to_be_bytes();
     let cycle = [u32::MAX.to_be_bytes(), 1_u32.to_be_bytes()].concat();
-    let parts = [base_time, count.into(), list, cycle];
-    let mut operations = Operations::default();
-    for (value, part) in parts.iter().zip(PARTS) {
+    [base_time, count.into(), list, cycle]
+}
+
+/// Adds the sets of a whole schedule and its commit.
+pub fn commit_all(values: &Values, operations: &mut Operations) {
+    for (value, part) in values.iter().zip(PARTS) {
         operations.set(TABLE[part].name, value);
     }
-    operations.set(TABLE[COMMIT].name, &sums(&parts));
-    operations
+    operations.set(TABLE[COMMIT].name, &sums(values));
 }
 
 /// Operations that commit what memory holds.
@@ -122,7 +121,7 @@ pub fn recommit(memory: &[u8]) -> Operations {
 }
 
 /// The sums of a schedule.
-fn sums(values: &Values) -> [u8; 4] {
+pub fn sums(values: &Values) -> [u8; 4] {
     Block(values.each_ref().map(Vec::as_slice)).sums()
 }
 

@@ -103,8 +103,6 @@ fn wrong_use_of_traffic() {
 fn traffic_writes_what_comparisons_use() {
     for (word, kind) in [
         ("frames", second::traffic::Kind::Frames),
-        ("mixed", second::traffic::Kind::Mixed),
-        ("empty", second::traffic::Kind::Empty),
         ("script", second::traffic::Kind::Script),
         ("calls", second::traffic::Kind::Calls),
     ] {

@@ -20,5 +20,6 @@ mod soundness;
 mod stack;
 mod stored;
 mod stored_script;
+mod streams;
 mod subscriptions;
 mod traffic;

@@ -6,8 +6,9 @@ use std::time::Duration;
 use std::{env, fs};
 
 use second::measure::table::{Row, Table};
-use second::measure::time::Ratio;
+use second::measure::time::Times;
 use second::measure::{processor, Exported, Plan};
+use second::traffic::measured::STREAMS;
 
 use crate::process::{assert_quiet_without_reader, assert_refused, run, text};
 use crate::process::{BRIDGE, MEASURE, RIG};
@@ -30,7 +31,7 @@ fn on_path(path: &str, arguments: &[&str]) -> Output {
 }
 
 /// The cells of the table's rows. The table is all that is printed, and its columns are aligned.
-fn rows(output: &Output) -> Vec<[&str; 4]> {
+fn rows(output: &Output) -> Vec<[&str; 5]> {
     assert_eq!(text(&output.stderr), "");
     assert!(output.status.success());
     let lines: Vec<&str> = text(&output.stdout).lines().collect();
@@ -38,25 +39,31 @@ fn rows(output: &Output) -> Vec<[&str; 4]> {
     assert!(lines[1].starts_with("| ---"));
     let cells = lines.into_iter().map(|line| {
         let cells: Vec<&str> = line.split('|').map(str::trim).collect();
-        let ["", what, ratio, limit, from, ""] = cells[..] else {
+        let ["", what, ratio, limit, each, from, ""] = cells[..] else {
             panic!("{line}");
         };
-        [what, ratio, limit, from]
+        [what, ratio, limit, each, from]
     });
     let cells: Vec<_> = cells.collect();
-    assert_eq!(cells[0], ["what", "ratio", "limit", "from"]);
+    let heads = ["what", "ratio", "limit", "microseconds a message", "from"];
+    assert_eq!(cells[0], heads);
     cells[2..].to_vec()
 }
 
-/// Asserts that a row has the times of two bridges.
-fn assert_timed(row: [&str; 4], what: &str) {
-    let [told, ratio, limit, from] = row;
-    assert_eq!([told, limit], [what, "2.00"]);
-    let ratio: f64 = ratio.parse().unwrap();
-    let from = from.strip_prefix("medians of 5 runs each, ").unwrap();
-    let turns = from.strip_suffix(" by turns").unwrap();
+/// Asserts that a row has the times of two bridges for so many messages.
+fn assert_timed(row: [&str; 5], messages: u64) {
+    let [_, ratio, _, each, from] = row;
+    let number = |word: &str| word.parse::<f64>().unwrap();
+    let (bridge, second) = each.split_once(" (second ").unwrap();
+    let second = number(second.strip_suffix(')').unwrap());
+    // What is shown is rounded.
+    let shown = number(bridge) / second - number(ratio);
+    assert!(second > 0.0 && shown.abs() < 0.1, "{row:?}");
+    let start = format!("{messages} messages, medians of 5 runs each, ");
+    let turns = from.strip_prefix(&start).unwrap();
+    let turns = turns.strip_suffix(" by turns").unwrap();
     let (low, high) = turns.split_once(" to ").unwrap();
-    let [low, high]: [f64; 2] = [low, high].map(|turn| turn.parse().unwrap());
+    let [low, ratio, high] = [low, ratio, high].map(number);
     assert!(0.0 < low && low <= ratio && ratio <= high, "{row:?}");
 }
 
@@ -69,47 +76,51 @@ fn one_table_has_all_that_is_asked_for() {
     words.extend([BRIDGE, BRIDGE, "3000"]);
     let output = on_path(&path, &words);
     let rows = rows(&output);
-    for (row, kind) in rows.iter().zip(["mixed", "empty"]) {
-        let what = format!("time of the bridge to the second's, 3000 {kind} frames");
-        assert_timed(*row, &what);
+    for (row, stream) in rows.iter().zip(&STREAMS) {
+        assert_eq!(row[0], format!("time to the second's: {}", stream.what));
+        assert_eq!(row[2], format!("{:.2}", stream.limit.ratio()));
+        assert_timed(*row, (3_000 / stream.one_in).max(1));
     }
-    let rest: Vec<String> = rows[2..].iter().map(|cells| cells.join("; ")).collect();
+    let rest = rows[STREAMS.len()..].iter();
+    let rest: Vec<String> = rest.map(|cells| cells.join("; ")).collect();
     let expected = "\
-stack of the message call to its limit; 0.04; 1.00; 112 of 2100 + 1024 octets: call 72, part::deep 40
-time of the gate to ten minutes; 0.15; 1.00; 2 crates, 3 edits
-share of all crates in the gate; 1.00; ; check 0.41, 3 edits 0.59
-share of bridge in the gate; 0.76; ; check 0.33, 1 edit 0.43
-share of octets in the gate; 0.24; ; check 0.09, 2 edits 0.16";
+stack of the message call to its limit; 0.04; 1.00; ; 112 of 2100 + 1024 octets: call 72, part::deep 40
+time of the gate to ten minutes; 0.15; 1.00; ; 2 crates, 3 edits
+share of all crates in the gate; 1.00; ; ; check 0.41, 3 edits 0.59
+share of bridge in the gate; 0.76; ; ; check 0.33, 1 edit 0.43
+share of octets in the gate; 0.24; ; ; check 0.09, 2 edits 0.16";
     assert_eq!(rest.join("\n"), expected);
 }
 
 #[test]
 fn what_is_not_asked_for_or_not_told_is_left_out() {
-    assert_eq!(rows(&run(MEASURE, &[BRIDGE, BRIDGE, "10"], &[])).len(), 2);
+    let output = run(MEASURE, &[BRIDGE, BRIDGE, "10"], &[]);
+    assert_eq!(rows(&output).len(), STREAMS.len());
     let log = file("untimed.log", gate::LOG.replace("real", "").as_bytes());
     let output = run(MEASURE, &["--gate", &log, BRIDGE, BRIDGE, "10"], &[]);
     let why = "not measured: the log has no line 'real' of 'time'";
-    let untimed = ["time of the gate to ten minutes", "-", "1.00", why];
-    assert_eq!(rows(&output)[2], untimed);
+    let untimed = ["time of the gate to ten minutes", "-", "1.00", "", why];
+    assert_eq!(rows(&output)[STREAMS.len()], untimed);
 }
 
 #[test]
 fn a_table_is_aligned() {
-    let row = |what: &str, ratio, limit, from: &str| Row {
+    let row = |what: &str, ratio, limit, each, from: &str| Row {
         what: what.into(),
         ratio,
         limit,
+        each,
         from: from.into(),
     };
     let table = Table(vec![
-        row("a", Some(1.0 / 3.0), Some(12.5), "b"),
-        row("äöü", None, None, "some words"),
+        row("a", Some(1.0 / 3.0), Some(12.5), Some([0.1, 0.3]), "b"),
+        row("äöü", None, None, None, "some words"),
     ]);
     let expected = "\
-| what | ratio | limit | from       |
-| ---- | ----: | ----: | ---------- |
-| a    |  0.33 | 12.50 | b          |
-| äöü  |     - |       | some words |
+| what | ratio | limit | microseconds a message | from       |
+| ---- | ----: | ----: | ---------------------: | ---------- |
+| a    |  0.33 | 12.50 |     0.10 (second 0.30) | b          |
+| äöü  |     - |       |                        | some words |
 ";
     assert_eq!(table.to_string(), expected);
 }
@@ -117,14 +128,16 @@ fn a_table_is_aligned() {
 #[test]
 fn the_ratio_is_that_of_the_medians() {
     let times = [[30, 10, 20, 90, 40], [10, 40, 20, 20, 80]];
-    let ratio = Ratio::of(times.map(|times| times.map(Duration::from_millis)));
-    let expected = Ratio {
-        medians: 1.5,
+    let times = Times::of(times.map(|times| times.map(Duration::from_millis)));
+    let expected = Times {
+        medians: [30, 20].map(Duration::from_millis),
         turns: [0.25, 4.5],
     };
-    assert_eq!(ratio, expected);
+    assert_eq!(times, expected);
+    assert_eq!(times.ratio(), 1.5);
+    assert_eq!(times.each(1_000), [30.0, 20.0]);
     let told = "medians of 5 runs each, 0.25 to 4.50 by turns";
-    assert_eq!(ratio.to_string(), told);
+    assert_eq!(times.to_string(), told);
 }
 
 #[test]
@@ -277,9 +290,11 @@ fn programs_for_another_processor_are_not_compared() {
         ),
     ] {
         let output = run(MEASURE, &[bridge, second], &[]);
-        let what = |kind| format!("time of the bridge to the second's, 1000000 {kind} frames");
-        let (mixed, empty) = (what("mixed"), what("empty"));
-        let expected = [[&*mixed, "-", "2.00", why], [&*empty, "-", "2.00", why]];
-        assert_eq!(rows(&output), expected);
+        let rows = rows(&output);
+        assert_eq!(rows.len(), STREAMS.len());
+        for (row, stream) in rows.iter().zip(&STREAMS) {
+            let limit = format!("{:.2}", stream.limit.ratio());
+            assert_eq!(row[1..], ["-", &*limit, "", why]);
+        }
     }
 }

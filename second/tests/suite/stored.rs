@@ -8,7 +8,7 @@ use second::traffic::{stream, Kind};
 use crate::kit::{command, hex, read, Reply};
 use crate::process::{run, text, BRIDGE};
 use crate::samples::{self, frames};
-use crate::traffic::pieces;
+use crate::traffic::{measured, pieces};
 
 /// The samples that the stream begins with.
 const SAMPLES: [&str; 2] = ["three-frames", "replies"];
@@ -59,7 +59,7 @@ fn the_second_bridge_prints_the_stored_lines() {
 fn the_stored_stream_follows_from_its_seeds() {
     let samples = SAMPLES.map(|name| frames(&samples::named(name, "hex")));
     let traffic = [
-        stream(Kind::Mixed, 1, 200),
+        stream(measured("mixed"), 1, 200),
         stream(Kind::Frames, 42_582, 350),
     ];
     let stdin = stored("bridge", "stdin");

@@ -3,10 +3,16 @@
 use std::collections::BTreeMap;
 
 use crate::kit::{Bench, Reply};
-use second::traffic::{stream, Kind};
+use second::traffic::measured::{Stream, STREAMS};
+use second::traffic::{self, stream, Kind};
 
 const SCRIPTS: u64 = 200;
 const RECORDS: u64 = 200;
+
+/// The kind of a stream for measuring.
+pub fn measured(word: &str) -> Kind {
+    Kind::Measured(Stream::named(word).unwrap())
+}
 
 /// The pieces of a stream, the last cut one excepted.
 pub fn pieces(stream: &[u8], head: usize) -> Vec<(Vec<u8>, Vec<u8>)> {
@@ -181,7 +187,7 @@ fn replies(stream: &[u8]) -> Vec<(Vec<u8>, Reply)> {
 
 #[test]
 fn mixed_frames_read_and_set_by_turns() {
-    let replies = replies(&stream(Kind::Mixed, 7, 3_000));
+    let replies = replies(&stream(measured("mixed"), 7, 3_000));
     assert_eq!(replies.len(), 3_000);
     let mut set = BTreeMap::new();
     for (turn, (operations, reply)) in replies.iter().enumerate() {
@@ -211,7 +217,7 @@ fn mixed_frames_read_and_set_by_turns() {
 
 #[test]
 fn empty_frames_follow_one_that_fills_memory() {
-    let stream = stream(Kind::Empty, 7, 1_000);
+    let stream = stream(measured("empty"), 7, 1_000);
     let filling = pieces(&stream, 2).remove(0).1;
     let (first, rest) = stream.split_at(2 + filling.len());
     assert_eq!(rest, vec![0; 2 * 999]);
@@ -237,8 +243,8 @@ fn empty_frames_follow_one_that_fills_memory() {
     ];
     assert_eq!(lengths, BTreeMap::from(full));
     assert!(reply.update_errors.is_empty());
-    for kind in [Kind::Mixed, Kind::Empty] {
-        assert!(second::traffic::stream(kind, 1, 0).is_empty());
+    for kind in STREAMS.iter().map(Kind::Measured) {
+        assert!(traffic::stream(kind, 1, 0).is_empty());
     }
 }
 
@@ -306,20 +312,24 @@ fn most_commands_of_a_script_are_carried_out() {
 /// A stream is the same on every machine; this pins one of each kind (FNV-1a, 64 bits).
 #[test]
 fn streams_follow_from_their_seed_alone() {
-    let digest = |kind, seed| {
-        let start = 0xCBF2_9CE4_8422_2325_u64;
+    let hash = |octets: &[u8], start: u64| {
         let step =
             |hash: u64, octet: &u8| (hash ^ u64::from(*octet)).wrapping_mul(0x0100_0000_01B3);
-        stream(kind, seed, 1_000).iter().fold(start, step)
+        octets.iter().fold(start, step)
     };
-    assert_ne!(digest(Kind::Frames, 1), digest(Kind::Frames, 2));
-    assert_ne!(digest(Kind::Script, 1), digest(Kind::Script, 2));
-    assert_ne!(digest(Kind::Calls, 1), digest(Kind::Calls, 2));
-    assert_ne!(digest(Kind::Mixed, 1), digest(Kind::Mixed, 2));
-    assert_ne!(digest(Kind::Empty, 1), digest(Kind::Empty, 2));
-    assert_eq!(digest(Kind::Frames, 1), 0x5399_F764_69FC_26DD);
-    assert_eq!(digest(Kind::Mixed, 1), 0x8F2D_1544_4C08_A106);
-    assert_eq!(digest(Kind::Empty, 1), 0xD944_AA8A_A327_8099);
-    assert_eq!(digest(Kind::Script, 1), 0x5C7C_E4AA_7143_8DF6);
-    assert_eq!(digest(Kind::Calls, 1), 0xB19E_8A59_EAD6_3FC2);
+    let start = 0xCBF2_9CE4_8422_2325;
+    for (kind, pinned) in [
+        (Kind::Frames, 0x5399_F764_69FC_26DD),
+        (measured("mixed"), 0x8F2D_1544_4C08_A106),
+        (measured("empty"), 0xD944_AA8A_A327_8099),
+        (Kind::Script, 0x5C7C_E4AA_7143_8DF6),
+        (Kind::Calls, 0xB19E_8A59_EAD6_3FC2),
+    ] {
+        let [first, second] = [1, 2].map(|seed| stream(kind, seed, 1_000));
+        assert_ne!(first, second, "{kind:?}");
+        assert_eq!(hash(&first, start), pinned, "{kind:?}");
+    }
+    let kinds = STREAMS.iter().map(Kind::Measured);
+    let all = kinds.fold(start, |so_far, kind| hash(&stream(kind, 1, 100), so_far));
+    assert_eq!(all, 0xC0A9_3EBC_3D20_CC94);
 }
