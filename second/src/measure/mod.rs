@@ -6,23 +6,25 @@ pub mod processor;
 pub mod stack;
 pub mod table;
 pub mod time;
+pub mod worst;
 
 use std::io::{self, Write};
 use std::{fmt, fs};
 
 use crate::traffic;
-use crate::traffic::measured::{Stream, STREAMS};
+use crate::traffic::measured::{Limit, Stream, STREAMS};
 use gate::{Gate, Part};
 use table::{Row, Table};
 
 /// How the program is called.
 pub const USAGE: &str =
-    "usage: measure [--stack CALL LIBRARY] [--gate LOG] BRIDGE SECOND [COUNT]; \
+    "usage: measure [--worst] [--stack CALL LIBRARY] [--gate LOG] BRIDGE SECOND [COUNT]; \
 BRIDGE is the path of the bridge that is measured, SECOND of the one that it is measured against, \
-COUNT how many frames a stream has (1000000 if left out), LIBRARY a static library for x86-64 that \
-has the message call under the name CALL, LOG what a gate printed";
+COUNT how many of the shortest messages a stream has (1000000 if left out), LIBRARY a static \
+library for x86-64 that has the message call under the name CALL, LOG what a gate printed; --worst \
+also searches for the worst message";
 
-/// Frames of a stream where no count is given.
+/// Messages of a stream where no count is given.
 const COUNT: u64 = 1_000_000;
 /// The seed of the streams, which are the same in every measurement.
 const SEED: u64 = 1;
@@ -36,8 +38,10 @@ const GATE: f64 = 600.0;
 pub struct Plan {
     /// Paths of the bridge and of the second one.
     pub programs: [String; 2],
-    /// Frames of each stream, but for one that fills memory.
+    /// Messages of a stream of the shortest; other streams have a part of it.
     pub count: u64,
+    /// Whether the worst message is searched for.
+    pub worst: bool,
     /// The call whose stack is to be read.
     pub stack: Option<Exported>,
     /// Path of what a gate printed.
@@ -56,10 +60,14 @@ pub struct Exported {
 impl Plan {
     /// Reads the arguments.
     pub fn parse(arguments: &[String]) -> Result<Plan, String> {
-        let (mut stack, mut gate) = (None, None);
+        let (mut worst, mut stack, mut gate) = (false, None, None);
         let mut rest = arguments;
         loop {
             match rest {
+                [word, behind @ ..] if word == "--worst" && !worst => {
+                    worst = true;
+                    rest = behind;
+                }
                 [word, call, library, behind @ ..] if word == "--stack" && stack.is_none() => {
                     stack = Some(Exported {
                         call: call.clone(),
@@ -87,6 +95,7 @@ impl Plan {
         Ok(Plan {
             programs,
             count,
+            worst,
             stack,
             gate,
         })
@@ -116,28 +125,25 @@ pub fn run<W: Write>(plan: &Plan, output: &mut W) -> io::Result<()> {
 
 /// The bridge's times to those of the second one, or why they cannot be compared here.
 fn time_rows(plan: &Plan) -> io::Result<Vec<Row>> {
-    let obstacle = processor::obstacle(&plan.programs)?;
+    let what = |stream: &Stream| format!("time to the second's: {}", stream.what);
+    if let Some(why) = processor::obstacle(&plan.programs)? {
+        let streams = STREAMS.iter().map(|stream| (what(stream), stream.limit));
+        let goals = worst::GOALS.iter().filter(|_| plan.worst);
+        let all = streams.chain(goals.map(|goal| (goal.to_string(), Limit::Any)));
+        let rows = all.map(|(what, limit)| Row::untimed(what, limit, &why));
+        return Ok(rows.collect());
+    }
     let row = |stream: &Stream| {
-        let mut row = Row {
-            what: format!("time to the second's: {}", stream.what),
-            ratio: None,
-            limit: Some(stream.limit.ratio()),
-            each: None,
-            from: String::new(),
-        };
-        if let Some(why) = &obstacle {
-            row.from = format!("not measured: {why}");
-            return Ok(row);
-        }
         let messages = (plan.count / stream.one_in).max(1);
         let frames = stream.before() + messages;
         let times = time::measure(&plan.programs, |sink| stream.write(SEED, frames, sink))?;
-        row.ratio = Some(times.ratio());
-        row.each = Some(times.each(messages));
-        row.from = format!("{messages} messages, {times}");
-        Ok(row)
+        Ok(Row::timed(what(stream), stream.limit, messages, &times))
     };
-    STREAMS.iter().map(row).collect()
+    let mut rows: Vec<Row> = STREAMS.iter().map(row).collect::<io::Result<_>>()?;
+    if plan.worst {
+        rows.extend(worst::rows(&plan.programs, plan.count)?);
+    }
+    Ok(rows)
 }
 
 fn stack_row(exported: &Exported) -> io::Result<Row> {

@@ -3,6 +3,9 @@
 use std::ops::Range;
 use std::{array, fmt};
 
+use super::time::Times;
+use crate::traffic::measured::Limit;
+
 const COLUMNS: usize = 5;
 const HEADS: [&str; COLUMNS] = ["what", "ratio", "limit", "microseconds a message", "from"];
 /// The columns of numbers.
@@ -24,6 +27,28 @@ pub struct Row {
 }
 
 impl Row {
+    /// The times of so many messages.
+    pub fn timed(what: String, limit: Limit, messages: u64, times: &Times) -> Row {
+        Row {
+            what,
+            ratio: Some(times.ratio()),
+            limit: Some(limit.ratio()),
+            each: Some(times.each(messages)),
+            from: format!("{messages} messages, {times}"),
+        }
+    }
+
+    /// Times that could not be measured.
+    pub fn untimed(what: String, limit: Limit, why: &str) -> Row {
+        Row {
+            what,
+            ratio: None,
+            limit: Some(limit.ratio()),
+            each: None,
+            from: format!("not measured: {why}"),
+        }
+    }
+
     fn cells(&self) -> [String; COLUMNS] {
         let shown = |ratio| format!("{ratio:.2}");
         let ratio = self.ratio.map_or("-".into(), shown);

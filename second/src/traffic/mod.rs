@@ -2,7 +2,7 @@
 
 pub mod acts;
 mod commands;
-mod dice;
+pub mod dice;
 pub mod measured;
 mod memories;
 mod schedules;

@@ -23,3 +23,4 @@ mod stored_script;
 mod streams;
 mod subscriptions;
 mod traffic;
+mod worst;

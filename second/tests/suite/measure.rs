@@ -7,6 +7,7 @@ use std::{env, fs};
 
 use second::measure::table::{Row, Table};
 use second::measure::time::Times;
+use second::measure::worst::GOALS;
 use second::measure::{processor, Exported, Plan};
 use second::traffic::measured::STREAMS;
 
@@ -72,16 +73,25 @@ fn one_table_has_all_that_is_asked_for() {
     let library = file("asked.a", stack::LLVM.as_bytes());
     let log = file("asked.log", gate::LOG.as_bytes());
     let path = format!("{TOOLS}:{}", env::var("PATH").unwrap());
-    let mut words = vec!["--stack", "call", &library, "--gate", &log];
-    words.extend([BRIDGE, BRIDGE, "3000"]);
+    let mut words = vec!["--worst", "--stack", "call", &library, "--gate", &log];
+    words.extend([BRIDGE, BRIDGE, "300"]);
     let output = on_path(&path, &words);
     let rows = rows(&output);
     for (row, stream) in rows.iter().zip(&STREAMS) {
         assert_eq!(row[0], format!("time to the second's: {}", stream.what));
         assert_eq!(row[2], format!("{:.2}", stream.limit.ratio()));
-        assert_timed(*row, (3_000 / stream.one_in).max(1));
+        assert_timed(*row, (300 / stream.one_in).max(1));
     }
-    let rest = rows[STREAMS.len()..].iter();
+    let (worst, rest) = rows[STREAMS.len()..].split_at(GOALS.len());
+    for (row, goal) in worst.iter().zip(GOALS) {
+        let (tried, _) = row[0].split_once(" messages tried: ").unwrap();
+        let tried = tried.strip_prefix(&format!("{goal} of ")).unwrap();
+        assert!(tried.parse::<usize>().unwrap() > 100, "{row:?}");
+        assert_eq!(row[2], "2.00");
+        let (messages, _) = row[4].split_once(' ').unwrap();
+        assert_timed(*row, messages.parse().unwrap());
+    }
+    let rest = rest.iter();
     let rest: Vec<String> = rest.map(|cells| cells.join("; ")).collect();
     let expected = "\
 stack of the message call to its limit; 0.04; 1.00; ; 112 of 2100 + 1024 octets: call 72, part::deep 40
@@ -147,6 +157,7 @@ fn arguments_of_measure() {
     let bare = Plan {
         programs: paths("./a", "/b/c"),
         count: 1_000_000,
+        worst: false,
         stack: None,
         gate: None,
     };
@@ -154,6 +165,7 @@ fn arguments_of_measure() {
     let full = || Plan {
         programs: paths("../a", "./-b/c"),
         count: 7,
+        worst: true,
         stack: Some(Exported {
             call: "message".into(),
             library: "./-x.a".into(),
@@ -161,18 +173,18 @@ fn arguments_of_measure() {
         gate: Some("log".into()),
     };
     assert_eq!(
-        plan("--stack message -x.a --gate log ../a -b/c 7"),
+        plan("--worst --stack message -x.a --gate log ../a -b/c 7"),
         Ok(full())
     );
     assert_eq!(
-        plan("--gate log --stack message -x.a ../a -b/c 7"),
+        plan("--gate log --stack message -x.a --worst ../a -b/c 7"),
         Ok(full())
     );
 }
 
 #[test]
 fn wrong_use_of_measure() {
-    let cases: [&[&str]; 15] = [
+    let cases: [&[&str]; 16] = [
         &[],
         &[BRIDGE],
         &[BRIDGE, BRIDGE, "few"],
@@ -182,6 +194,7 @@ fn wrong_use_of_measure() {
         &[BRIDGE, BRIDGE, "1", "2"],
         &["--help"],
         &["--fast", BRIDGE, BRIDGE],
+        &["--worst", "--worst", BRIDGE, BRIDGE],
         &["--gate"],
         &["--gate", "log", BRIDGE],
         &["--gate", "log", "--gate", "log", BRIDGE, BRIDGE],
@@ -289,9 +302,12 @@ fn programs_for_another_processor_are_not_compared() {
             "not measured: the bridge is not a compiled program",
         ),
     ] {
-        let output = run(MEASURE, &[bridge, second], &[]);
+        let output = run(MEASURE, &["--worst", bridge, second], &[]);
         let rows = rows(&output);
-        assert_eq!(rows.len(), STREAMS.len());
+        for (row, goal) in rows[STREAMS.len()..].iter().zip(GOALS) {
+            assert_eq!(*row, [goal, "-", "2.00", "", why]);
+        }
+        assert_eq!(rows.len(), STREAMS.len() + GOALS.len());
         for (row, stream) in rows.iter().zip(&STREAMS) {
             let limit = format!("{:.2}", stream.limit.ratio());
             assert_eq!(row[1..], ["-", &*limit, "", why]);
