@@ -24,8 +24,10 @@ const MARGIN: f64 = 1.02;
 const SHORTEST: Duration = Duration::from_millis(1);
 /// Octets of operations in the longest message that is taken.
 const MOST_OCTETS: usize = 2_048 - 3;
-/// Octets that a message is counted as having besides its own. The messages of a try have COUNT
-/// octets, so that each try takes about as long.
+/// The messages of a try have one octet for so many of COUNT, so that each try takes about as long:
+/// some hundredths of a second.
+const OCTET_IN: u64 = 2;
+/// Octets that a message is counted as having besides its own.
 const BESIDE: usize = 32;
 /// The messages that are found are measured on so many times those of a try.
 const CONFIRMED: u64 = 20;
@@ -212,10 +214,10 @@ pub fn words(mix: &Acts) -> String {
     }
 }
 
-/// How many messages a try has: their octets are about COUNT.
+/// How many messages a try has.
 fn messages(mix: &Acts, count: u64) -> u64 {
     let octets = scene().message(mix).len().min(MOST_OCTETS) + BESIDE;
-    (count / octets as u64).max(1)
+    (count / OCTET_IN / octets as u64).max(1)
 }
 
 /// The times for so many messages, after the one that fills memory.

@@ -2,7 +2,7 @@
 
 use std::collections::{BTreeMap, BTreeSet};
 
-use second::traffic::measured::STREAMS;
+use second::traffic::measured::{Stream, STREAMS};
 use second::traffic::{stream, words, Kind};
 
 use crate::kit::{Bench, Reply};
@@ -190,6 +190,23 @@ fn no_stream_of_a_measurement_is_too_large() {
         assert!(row.limit.ratio() <= 2.0);
         assert!(row.before() <= 1);
     }
+}
+
+#[test]
+fn the_readme_has_each_stream_and_its_limit() {
+    let readme = include_str!("../../README.md");
+    let cells = |line: &'static str| line.split('|').map(str::trim).collect::<Vec<_>>();
+    let mut told = BTreeMap::new();
+    for row in readme.lines().map(cells).filter(|cells| cells.len() == 5) {
+        let words = row[1].split(", ").filter_map(|word| {
+            let word = word.strip_prefix('`')?;
+            word.strip_suffix('`')
+        });
+        told.extend(words.map(|word| (word, row[3].to_string())));
+    }
+    let limit = |row: &'static Stream| (row.word, format!("{:.2}", row.limit.ratio()));
+    let limits: BTreeMap<_, _> = STREAMS.iter().map(limit).collect();
+    assert_eq!(told, limits);
 }
 
 #[test]
