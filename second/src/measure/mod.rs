@@ -82,16 +82,7 @@ impl Plan {
                 _ => break,
             }
         }
-        let (bridge, second, count) = match rest {
-            [word, ..] if word.starts_with("--") => return Err(USAGE.into()),
-            [bridge, second] => (bridge, second, COUNT),
-            [bridge, second, count] => (bridge, second, traffic::number("COUNT", count)?),
-            _ => return Err(USAGE.into()),
-        };
-        if count == 0 || count == u64::MAX {
-            return Err(format!("COUNT cannot be {count}"));
-        }
-        let programs = [bridge, second].map(|path| path_of(path));
+        let (programs, count) = programs_and_count(rest)?;
         Ok(Plan {
             programs,
             count,
@@ -100,6 +91,20 @@ impl Plan {
             gate,
         })
     }
+}
+
+/// The arguments after the options.
+fn programs_and_count(words: &[String]) -> Result<([String; 2], u64), String> {
+    let (bridge, second, count) = match words {
+        [word, ..] if word.starts_with("--") => return Err(USAGE.into()),
+        [bridge, second] => (bridge, second, COUNT),
+        [bridge, second, count] => (bridge, second, traffic::number("COUNT", count)?),
+        _ => return Err(USAGE.into()),
+    };
+    if count == 0 || count == u64::MAX {
+        return Err(format!("COUNT cannot be {count}"));
+    }
+    Ok(([bridge, second].map(|path| path_of(path)), count))
 }
 
 /// A path that means a file wherever it is used: a bare name would be looked for on the PATH when it

@@ -15,7 +15,7 @@ use crate::{take_message, FRESH};
 /// What a message can be worst in: the time of the measured bridge, and its ratio to the second's.
 pub const GOALS: [&str; 2] = ["worst time", "worst ratio"];
 /// Messages that are tried for each goal after those of one act.
-const ROUNDS: usize = 60;
+const ROUNDS: usize = 80;
 /// Acts, one after another, that a message has at most: more would hardly be named.
 const MOST_ACTS: usize = 4;
 /// By this factor a message has to be worse, so that noise is not followed.
@@ -34,7 +34,7 @@ const CONFIRMED: u64 = 20;
 
 /// What messages are put together from, each with its name; the first word has an s if there are
 /// more than one. Names and values are those that take longest of their sort: the last of the table.
-pub const ACTS: [(&str, Act); 24] = [
+pub const ACTS: [(&str, Act); 27] = [
     ("get of capabilities", Act::Capabilities),
     ("read of one octet", Act::Read(Name::Is(0x0060))),
     ("read of 255 octets", Act::Read(Name::Is(0x0061))),
@@ -52,6 +52,10 @@ pub const ACTS: [(&str, Act); 24] = [
     ("set of a wrong octet", Act::Set(0x0060, 1, 8)),
     ("set of an unlisted name", Act::Set(0xFFFF, 1, 1)),
     ("set of a value of the port", Act::Set(0x00A4, 2, 0)),
+    // After these a commit fails, each time at another condition; a base time only changes the sums.
+    ("set of a base time of 0", Act::Set(0x0004, 10, 0)),
+    ("set of a list length of 0", Act::Set(0x0005, 4, 0)),
+    ("set of a cycle of 1 s", Act::Set(0x0007, 8, 1)),
     ("schedule of 64 entries", Act::Schedule(64)),
     ("commit", Act::Commit),
     ("commit with wrong sums", Act::WrongCommit),
@@ -96,7 +100,7 @@ pub fn search(mut cost: impl FnMut(&Acts) -> io::Result<Costs>) -> io::Result<Fo
 }
 
 impl Found {
-    /// Tries a message, and once more if it seems to be worse than others: noise does not come twice,
+    /// Tries a message, and once more if it seems to be worse than others: noise seldom comes twice,
     /// and the lower cost is taken.
     fn consider(
         &mut self,

@@ -62,12 +62,12 @@ fn a_search_mixes_what_is_worse_together() {
     let found = found.unwrap();
     assert_eq!(found.worst[0], [(227, Act::Commit)]);
     // The most of 9 a + 3 b octets is at 113 commits and 341 reads.
-    assert!(both(&found.worst[1]) > 0.8 * 113.0 * 341.0, "{found:?}");
+    assert!(both(&found.worst[1]) > 0.7 * 113.0 * 341.0, "{found:?}");
     assert_eq!(
         found.costs,
         [0, 1].map(|goal| cost(&found.worst[goal])[goal])
     );
-    assert_eq!(found.tried, of_one_act().len() + 120);
+    assert_eq!(found.tried, of_one_act().len() + 160);
     assert!(calls > found.tried && calls < 2 * found.tried);
 }
 
