@@ -17,7 +17,7 @@ pub const GOALS: [&str; 2] = ["worst time", "worst ratio"];
 /// Messages that are tried for each goal after those of one act.
 const ROUNDS: usize = 80;
 /// Acts, one after another, that a message has at most: more would hardly be named.
-const MOST_ACTS: usize = 4;
+const MOST_ACTS: usize = 8;
 /// By this factor a message has to be worse, so that noise is not followed.
 const MARGIN: f64 = 1.02;
 /// Times shorter than this are noise.
@@ -63,6 +63,16 @@ pub const ACTS: [(&str, Act); 27] = [
     ("unsubscribe", Act::Unsubscribe(Name::Is(0x8001))),
     ("malformed operation", Act::Malformed),
     ("frame of 65535 octets", Act::After),
+];
+
+/// Acts with a record of each kind: names, a value, an error, an update, an error, a long update.
+const EACH_KIND: [(usize, Act); 6] = [
+    (1, Act::Capabilities),
+    (1, Act::Read(Name::Is(0x0060))),
+    (1, Act::Read(Name::Is(0x00A4))),
+    (1, Act::Set(0x0060, 1, 7)),
+    (1, Act::Set(0x0060, 1, 8)),
+    (1, Act::SameList),
 ];
 
 /// Acts that are put together in the search.
@@ -128,17 +138,28 @@ impl Found {
     }
 }
 
-/// Messages of one act: once; as often as it can be carried out; as often as a message has room for
-/// it; and that with a last operation for which all is refused. Also the empty message.
+/// Messages of one act: once; as often as it can be carried out; that with a record of each kind
+/// beside it; as often as a message has room for it; and that with a last operation for which all is
+/// refused. Also the empty message.
 pub fn of_one_act() -> Vec<Mix> {
     let mut mixes = vec![Mix::new()];
     for (_, act) in ACTS {
-        let most = room(&[], act);
-        let carried_out = (1..=most).rev().find(|count| number(&[(*count, act)]) == 0);
-        let refused = room(&[(1, Act::Malformed)], act);
-        let counts = [1, carried_out.unwrap_or(1), most];
-        let mut of_act: Vec<Mix> = counts.map(|count| vec![(count, act)]).into();
-        of_act.push(vec![(refused, act), (1, Act::Malformed)]);
+        let beside = |before: &Acts, count: usize, after: &Acts| -> Mix {
+            [before, &[(count, act)], after].concat()
+        };
+        let carried_out = |before: &Acts| {
+            let mut counts = (1..=room(before, act)).rev();
+            let count = counts.find(|count| number(&beside(before, *count, &[])) == 0);
+            beside(before, count.unwrap_or(1), &[])
+        };
+        let last = [(1, Act::Malformed)];
+        let mut of_act = vec![
+            beside(&[], 1, &[]),
+            carried_out(&[]),
+            beside(&[], room(&[], act), &[]),
+            beside(&[], room(&last, act), &last),
+            carried_out(&EACH_KIND),
+        ];
         of_act.dedup();
         mixes.extend(of_act);
     }

@@ -38,7 +38,14 @@ fn messages_of_one_act_are_tried_to_every_limit() {
         numbers.insert(number(mix));
     }
     assert_eq!(numbers, BTreeSet::from([0, 2, 3, 6, 7]));
-    // Each act is the most of some message, and one that is carried out if it can be.
+    // A reply with all kinds of records, and as many commits as the message has room for.
+    let (most, kinds) = (174, [Act::Capabilities, Act::SameList]);
+    let all = mixes
+        .iter()
+        .find(|mix| count(mix, Act::Commit) == most as f64);
+    assert!(kinds.iter().all(|act| count(all.unwrap(), *act) == 1.0));
+    assert_eq!(number(all.unwrap()), 0);
+    // Each act stands in a message that is carried out, if it can be.
     for (name, act) in ACTS {
         let of_act = mixes.iter().filter(|mix| count(mix, act) > 0.0);
         let done = of_act.clone().any(|mix| number(mix) == 0);
