@@ -1,21 +1,24 @@
 -- What a set and a read find: lengths of values that sound memory holds, a commit's conditions, causes by the first check that fails.
-use Prim.Native.Nat.{ℕ, zero, suc, _+_, _≤_, _<_}
+use Prim.Native.Nat.{ℕ, zero, suc, _+_, _-_, _≤_, _<_}
+use native.Mathlib.Nat.{sub-zero}
 use native.Mathlib.Omega.{arith}
 use mathlib.Core.Path.{_≡_, refl, sym, ap, _∙_}
 use mathlib.Core.Logic.{_≢_}
-use mathlib.Core.Bool.{Bool, true, false, cond}
+use mathlib.Core.Bool.{Bool, true, false, _&&_, cond, and-true, and-false}
 use mathlib.Core.List.{List}
-use lib.ListN.{length, length-take}
+use lib.ListN.{length, take, length-take}
 use lib.Seq.{take-all}
+use lib.Dec.{eqb}
 use borrow.Author.Tests.{lt-ltb, le-ltb, ne-eqb}
+use Rattle.meaning.specs.Octets.{splice, same, every}
 use Rattle.meaning.specs.Checks.{firstFailed, settle}
 use Rattle.meaning.specs.Table.{rows, rowAt, place, listed, byController, entryCount, memoryLength, adminBaseTime, adminControlListLength, adminControlList, adminCycleTime, commit}
-use Rattle.meaning.specs.Block.{permits, joinedBlock}
+use Rattle.meaning.specs.Block.{permits, joinedBlock, formAndFit, sums}
 use Rattle.meaning.specs.Memory.{cell, room, size, present, body, pending, store, remark, fourPresent, sound}
 use Rattle.meaning.specs.Step.{block, commits, permitted, setChecks, stored, setMemory, subscribeMemory, unsubscribeMemory, setAnswer, readChecks, readAnswer, value, readError, update, updateError, shown}
 use Rattle.meaning.proofs.Sound.{opened, entry-of, four-at}
-use Rattle.schedule.specs.Rules.{agrees}
-use Rattle.schedule.proofs.Blocks.{permitted-base, permitted-count, permitted-list, permitted-ratio, permitted-length, commits-agrees}
+use Rattle.octets.proofs.Splices.{splice-front}
+use Rattle.schedule.proofs.Blocks.{permitted-base, permitted-count, permitted-list, permitted-ratio, permitted-length}
 
 pub long-of : (m : List ℕ) → sound m ≡ true → length m ≡ memoryLength
 long-of m s = opened m s .long
@@ -72,16 +75,27 @@ block-length m p =
     permitted-length (body m adminBaseTime) (body m adminControlListLength) (body m adminControlList) (body m adminCycleTime) (p .base) (p .count) (p .list) (p .ratio)
 
 pub commit-unset : (m v : List ℕ) → fourPresent m ≡ false → commits m v ≡ false
-commit-unset m v e = rw (commits-agrees m v, e)
+unfolding commits every
+commit-unset m v e = rw e
 
-pub commit-is : (m v : List ℕ) → fourPresent m ≡ true → commits m v ≡ agrees (block m) v
-commit-is m v e = rw (commits-agrees m v, e)
+pub commit-unfit : (m v : List ℕ) → formAndFit (block m) ≡ false → commits m v ≡ false
+unfolding commits every
+commit-unfit m v e = rw (e, and-false, and-false)
+
+-- where the four values are present and fit one another, the value sent decides
+pub commit-sums : (m v : List ℕ) → fourPresent m ≡ true → formAndFit (block m) ≡ true → commits m v ≡ (eqb (length v) 4 && same v (sums (block m)))
+unfolding commits every
+commit-sums m v e f = rw (e, f, and-true)
 
 -- four values as they were found make the block
 pub block-found : (m : List ℕ) {b c l r : List ℕ} → b ≡ body m adminBaseTime → c ≡ body m adminControlListLength → l ≡ body m adminControlList → r ≡ body m adminCycleTime
     → joinedBlock b c l r ≡ block m
 unfolding block
 block-found m hb hc hl hr = rw (hb, hc, hl, hr)
+
+-- a block at the start of a room, as it is lent on
+pub block-lent : (old b : List ℕ) {room : List ℕ} {n : ℕ} → n ≡ length b → room ≡ splice old 0 b → take (n - 0) room ≡ b
+block-lent old b e f = rw (sub-zero, e, f) (splice-front old b)
 
 -- a block that a commit stores fits its room
 pub block-in-room : (b : List ℕ) → length b ≤ 470 → length b ≤ rowAt commit .most

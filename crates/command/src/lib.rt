@@ -51,9 +51,12 @@ fn put_commit(m: &mut [u8], v: &[u8]) -> bool
     let count = memory::room(m, table::ADMIN_CONTROL_LIST_LENGTH);
     let list = memory::body(m, table::ADMIN_CONTROL_LIST);
     let ratio = memory::room(m, table::ADMIN_CYCLE_TIME);
+    if !schedule::fit_together(count, list, ratio) {
+        return false;
+    }
     let mut joined = [0u8; 470];
-    let n = 22 + list.len();
-    if !schedule::commit(base, count, list, ratio, v, &mut joined) {
+    let n = schedule::join(base, count, list, ratio, &mut joined);
+    if !schedule::sums_agree(&joined[0..n], v) {
         return false;
     }
     memory::store(m, table::COMMIT, &joined[0..n]);

@@ -3,24 +3,22 @@ use Prim.Native.Nat.{ℕ, _+_, _-_, _/_, _%_, _<_, _≤_}
 use native.Mathlib.Omega.{arith}
 use native.Mathlib.Numerals.{add-one}
 use mathlib.Core.Path.{_≡_, refl, sym, ap, _∙_}
+use mathlib.Core.Logic.{_≢_}
 use mathlib.Core.Bool.{Bool, true, false, _&&_, and-true}
 use mathlib.Core.List.{List, [], _∷_, _++_, append-assoc}
 use lib.ListN.{length, take, drop, length-append, length-drop, take-append-drop}
 use lib.Seq.{drop-cons, take-all, drop-drop}
 use lib.Dec.{eqb, leb}
-use borrow.Author.Tests.{eqb-true, eq-eqb, leb-true, le-leb}
+use borrow.Author.Tests.{eqb-true, eq-eqb, ne-eqb, leb-true, le-leb, lt-leb}
 use Rattle.meaning.specs.Octets.{octet, at16, be16, splice, every, same}
 use Rattle.meaning.specs.Table.{rows, rowAt, adminBaseTime, adminControlListLength, adminControlList, adminCycleTime}
 use Rattle.meaning.specs.Block.{number, timeOk, entriesOf, eachOk, listOk, intervals, ratioOk, cycle, sumsOf, sums, joinedBlock, formAndFit, keeps, permits}
-use Rattle.meaning.specs.Memory.{fourPresent}
-use Rattle.meaning.specs.Step.{block, commits}
 use Rattle.meaning.proofs.Lists.{be16-at16}
 use Rattle.meaning.proofs.Sums.{first-sum, second-sum, first-shown, second-shown}
 use Rattle.meaning.proofs.Tests.{and-left, and-right, and-both, every-at, alike, same-true, same-refl}
 use Rattle.meaning.proofs.Kept.{permits-length}
 use Rattle.meaning.proofs.Commit.{form-joined}
 use Rattle.octets.proofs.Splices.{then}
-use Rattle.schedule.specs.Rules.{agrees}
 
 pub joined-length : (b c l r : List ℕ) → length (joinedBlock b c l r) ≡ length b + length c + length l + length r
 unfolding joinedBlock
@@ -165,18 +163,11 @@ split-joined b h =
     ap (λ (t : List ℕ). take 4 (drop 10 b) ++ t) (sym (drop-drop 4 10 b)) ∙ take-append-drop 4 (drop 10 b) in
     rw (last, d₃, d₂) (take-append-drop 10 b)
 
--- ---- a commit
-
-pub in-order : (a b c : Bool) → (a && (b && c)) ≡ (b && (a && (c && true)))
+in-order : (a b c : Bool) → (a && (b && c)) ≡ (b && (a && (c && true)))
 in-order true true c = sym (and-true c)
 in-order true false c = refl
 in-order false true c = refl
 in-order false false c = refl
-
--- on memory: the four values present, and what `agrees` asks of their block, are a commit's conditions
-pub commits-agrees : (m v : List ℕ) → commits m v ≡ (fourPresent m && agrees (block m) v)
-unfolding commits agrees every
-commits-agrees m v = refl
 
 -- ---- values that their rows permit: length and rule of each, and the block that they make
 
@@ -207,13 +198,23 @@ module _ (b c l r : List ℕ) (pb : permits (rowAt adminBaseTime) b ≡ true) (p
   pub permitted-length : length (joinedBlock b c l r) ≡ 22 + length l
   permitted-length = omega (arith, joined-length b c l r, permitted-base b pb .0, permitted-count c pc .0, permitted-ratio r pr .0)
 
-  -- each keeps its rule, so form and fit is how they fit one another, by what was found of them
-  pub fit-left : {y : Bool} {n s : ℕ} → n ≡ number c → s ≡ intervals (entriesOf l) → y ≡ leb s (cycle r)
-      → (leb 1 (length l / 7) && (eqb n (length l / 7) && y)) ≡ formAndFit (joinedBlock b c l r)
+  -- each keeps its rule, so form and fit is how they fit one another
+  fit-is : (leb 1 (length l / 7) && (eqb (number c) (length l / 7) && leb (intervals (entriesOf l)) (cycle r))) ≡ formAndFit (joinedBlock b c l r)
   unfolding every
-  fit-left fn fs fy =
+  fit-is =
       let hb = permitted-base b pb in
       let hc = permitted-count c pc in
       let hr = permitted-ratio r pr in
-      rw (form-joined b c l r (hb .0) (hc .0) (hr .0), le-leb 22 (22 + length l) (omega arith), hb .1, le-leb (number c) 64 (hc .1), permitted-list l pl .1, hr .1, fn, fy, fs)
+      rw (form-joined b c l r (hb .0) (hc .0) (hr .0), le-leb 22 (22 + length l) (omega arith), hb .1, le-leb (number c) 64 (hc .1), permitted-list l pl .1, hr .1)
       (in-order (leb 1 (length l / 7)) (eqb (number c) (length l / 7)) (leb (intervals (entriesOf l)) (cycle r)))
+
+  -- with no entry, with another number in 0005, and by the intervals where there is neither
+  pub fit-none : length l / 7 < 1 → formAndFit (joinedBlock b c l r) ≡ false
+  fit-none h = rw (lt-leb 1 (length l / 7) h) at (sym fit-is)
+
+  module _ {n : ℕ} (h : 1 ≤ length l / 7) (e : n ≡ number c) where
+    pub fit-unheld : n ≢ length l / 7 → formAndFit (joinedBlock b c l r) ≡ false
+    fit-unheld u = rw (le-leb 1 (length l / 7) h, ne-eqb (number c) (length l / 7) (λ p. u (e ∙ p))) at (sym fit-is)
+
+    pub fit-held : n ≡ length l / 7 → formAndFit (joinedBlock b c l r) ≡ leb (intervals (entriesOf l)) (cycle r)
+    fit-held u = rw (le-leb 1 (length l / 7) h, eq-eqb (number c) (length l / 7) (sym e ∙ u)) at (sym fit-is)

@@ -1,13 +1,9 @@
--- The rules of the code's enum as those of the table, the lengths at which a rule is asked, and a commit's conditions on a block.
+-- The rules of the code's enum as those of the table, and the lengths at which a rule is asked.
 use Prim.Native.Nat.{ℕ}
 use mathlib.Core.Bool.{Bool, true, _||_}
-use mathlib.Core.List.{List, [], _∷_}
-use lib.ListN.{length}
 use lib.Dec.{eqb, leb}
-use Rattle.meaning.specs.Octets.{same, every}
 use Rattle.meaning.specs.Table.{free, within, time, entries, ratio, running}
 use Rattle.meaning.specs.Table as table
-use Rattle.meaning.specs.Block.{formAndFit, sums}
 use Rattle.schedule.specs.declared.Rule.{Rule}
 use Rattle.schedule.specs.declared.Rule.the-variants.{Free, Within, Time, Entries, Ratio, Running}
 
@@ -27,7 +23,3 @@ asked time n = eqb n 10
 asked entries n = leb n 448
 asked ratio n = eqb n 8
 asked running n = true
-
--- what a commit asks of a block and a value, the four values being present
-unfoldable pub agrees : List ℕ → List ℕ → Bool
-agrees b v = every (eqb (length v) 4 ∷ formAndFit b ∷ same v (sums b) ∷ [])

@@ -9,7 +9,7 @@ ghost use lib.Dec.{eqb};
 ghost use Rattle.meaning.specs.Octets.{be16, splice, same};
 ghost use Rattle.meaning.specs.Table.{rowAt, adminBaseTime, adminControlListLength, adminControlList, adminCycleTime};
 ghost use Rattle.meaning.specs.Block.{sumsFrom, sumsOf, sums, joinedBlock, formAndFit, keeps, permits};
-ghost use Rattle.schedule.specs.Rules.{ruleOf, asked, agrees};
+ghost use Rattle.schedule.specs.Rules.{ruleOf, asked};
 
 // The rules of the table's rows.
 pub enum Rule {
@@ -98,13 +98,19 @@ pub fn form_and_fit(b: &[u8]) -> bool
 
 // Form and fit of the block that a base time and these values make, each permitted by its row. They keep their rules, so what
 // is left is how they fit one another: 0005 holds n, n is at least 1, the intervals fit the cycle. No base time enters that.
-fn fit_together(count: &[u8], list: &[u8], ratio: &[u8]) -> bool
+pub fn fit_together(count: &[u8], list: &[u8], ratio: &[u8]) -> bool
     requires { ⌜ (permits (rowAt adminControlListLength) (now count) ≡ true) × (permits (rowAt adminControlList) (now list) ≡ true) × (permits (rowAt adminCycleTime) (now ratio) ≡ true) ⌝ }
     ensures { λ r. ⌜ ((base : List ℕ) → permits (rowAt adminBaseTime) base ≡ true → r ≡ formAndFit (joinedBlock base (now (count .entry)) (now (list .entry)) (now (ratio .entry)))) ⌝ }
 {
     let n = list.len() / 7;
+    if n < 1 {
+        return false;
+    }
+    if rules::number(count) != n as u64 {
+        return false;
+    }
     let sum = rules::intervals(list);
-    (1 <= n) & ((rules::number(count) == n as u64) & rules::fits_cycle(sum, ratio))
+    rules::fits_cycle(sum, ratio)
 }
 
 // Whether a value of a length that its row permits keeps a rule.
@@ -132,7 +138,7 @@ pub fn write_sums(s: Sums, out: &mut [u8])
 }
 
 // Whether a value has 4 octets and they are the sums of a block.
-fn sums_agree(block: &[u8], value: &[u8]) -> bool
+pub fn sums_agree(block: &[u8], value: &[u8]) -> bool
     ensures { λ r. ⌜ r ≡ (eqb (length (now (value .entry))) 4 && same (now (value .entry)) (sums (now (block .entry)))) ⌝ }
 {
     if value.len() != 4 {
@@ -143,7 +149,7 @@ fn sums_agree(block: &[u8], value: &[u8]) -> bool
 }
 
 // The block that four values make, joined at the start of a room; its length.
-fn join(base: &[u8], count: &[u8], list: &[u8], ratio: &[u8], block: &mut [u8]) -> usize
+pub fn join(base: &[u8], count: &[u8], list: &[u8], ratio: &[u8], block: &mut [u8]) -> usize
     requires { ⌜ length (joinedBlock (now base) (now count) (now list) (now ratio)) ≤ length (now block) ⌝ }
     ensures { λ r. ⌜ (r ≡ length (joinedBlock (now (base .entry)) (now (count .entry)) (now (list .entry)) (now (ratio .entry)))) × (now (block .exit) ≡ splice (now (block .entry)) 0 (joinedBlock (now (base .entry)) (now (count .entry)) (now (list .entry)) (now (ratio .entry)))) ⌝ }
 {
@@ -151,23 +157,4 @@ fn join(base: &[u8], count: &[u8], list: &[u8], ratio: &[u8], block: &mut [u8]) 
     at = octets::append(block, at, count);
     at = octets::append(block, at, list);
     octets::append(block, at, ratio)
-}
-
-// A commit's conditions on four values that are present and that their rows permit, as sound memory holds them: form and fit,
-// and sums that agree. The block that they make is left at the start of a room.
-pub fn commit(
-    base: &[u8],
-    count: &[u8],
-    list: &[u8],
-    ratio: &[u8],
-    value: &[u8],
-    block: &mut [u8],
-) -> bool
-    requires { ⌜ (permits (rowAt adminBaseTime) (now base) ≡ true) × (permits (rowAt adminControlListLength) (now count) ≡ true) × (permits (rowAt adminControlList) (now list) ≡ true) × (permits (rowAt adminCycleTime) (now ratio) ≡ true) × (22 + length (now list) ≤ length (now block)) ⌝ }
-    ensures { λ r. ⌜ r ≡ agrees (joinedBlock (now (base .entry)) (now (count .entry)) (now (list .entry)) (now (ratio .entry))) (now (value .entry)) ⌝ }
-    ensures { λ _. ⌜ now (block .exit) ≡ splice (now (block .entry)) 0 (joinedBlock (now (base .entry)) (now (count .entry)) (now (list .entry)) (now (ratio .entry))) ⌝ }
-{
-    let n = join(base, count, list, ratio, block);
-    let joined = &block[0..n];
-    fit_together(count, list, ratio) & sums_agree(joined, value)
 }
