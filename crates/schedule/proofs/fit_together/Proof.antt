@@ -1,7 +1,10 @@
 -- `schedule::fit_together` meets its contract.
+use Prim.Native.Nat.{ℕ}
 use native.Mathlib.Omega.{arith}
-use mathlib.Core.Path.{sym, _∙_}
+use mathlib.Core.Path.{sym, ap, _∙_}
+use lib.Dec.{leb}
 use borrow.Author.Needs.{needs}
+use Rattle.meaning.specs.Block.{cycle}
 use Rattle.schedule.proofs.Blocks.{permitted-count, permitted-list, permitted-ratio, fit-none, fit-unheld, fit-held}
 use Rattle.schedule.proofs.fit_together.Statement.{statement}
 use Rattle.schedule.proofs.fit_together.Tie as tie
@@ -38,7 +41,7 @@ returns-3 c base permitted =
     let s = c .before .before .before .before .before .before .before .before in
     let a = s .args in
     let found = fit-held base (a .count .now) (a .list .now) (a .ratio .now) permitted (s .pre .0) (s .pre .1) (s .pre .2) (c .before .before .before .before .if1 .left) (c .before .before .before .number .ensures .0) (c .before .before .if2 .left) in
-    rw (c .before .intervals .ensures) at (c .fits-cycle .ensures) ∙ sym found
+    c .fits-cycle .ensures ∙ ap (λ (s : ℕ). leb s (cycle (a .ratio .now))) (c .before .intervals .ensures) ∙ sym found
 
 pub fit-together-spec : {M : Type 1} → statement M
 fit-together-spec =
