@@ -2,12 +2,12 @@
 use Prim.Native.Nat.{ℕ, zero, suc}
 use mathlib.Core.Path.{_≡_, refl}
 use mathlib.Core.Bool.{Bool, true, false, _||_, true≢false}
-use mathlib.Core.List.{List, [], _∷_}
+use mathlib.Core.List.{List, [], _∷_, map}
 use Rattle.meaning.specs.Checks.{firstFailed, settle}
 use Rattle.meaning.specs.Operation.{Op, capabilities, read, set, subscribe, unsubscribe}
 use Rattle.meaning.specs.Table.{place}
 use Rattle.meaning.specs.Memory.{store}
-use Rattle.meaning.specs.Step.{update, updateError, setChecks, stored, setAnswer, setMemory, step, answer, after, answers}
+use Rattle.meaning.specs.Step.{value, readError, update, updateError, shown, readChecks, readAnswer, setChecks, stored, setAnswer, setMemory, step, answer, after, answers}
 use Rattle.command.specs.Answers.{mayChange, anyChange}
 
 neither : (a b : Bool) → (a || b) ≡ false → (a ≡ false) × (b ≡ false)
@@ -33,3 +33,17 @@ after-unchanged m (o ∷ os) e =
     let n = neither (mayChange (answer m o)) _ e in
     let s = step-unchanged m o (n .0) in
     rw s (after-unchanged m os (rw s at (n .1)))
+
+-- a command of reads alone changes nothing
+read-unchanging : (m : List ℕ) (n : ℕ) → mayChange (readAnswer m n) ≡ false
+unfolding mayChange readAnswer settle
+read-unchanging m n = go (firstFailed (readChecks m n))
+  where
+    go : (c : ℕ) → mayChange (settle c (value n (shown m (place n))) (readError n)) ≡ false
+    go zero = refl
+    go (suc c) = refl
+
+pub reads-alone : (m : List ℕ) (ns : List ℕ) → anyChange (answers m (map read ns)) ≡ false
+unfolding anyChange answers answer step
+reads-alone m [] = refl
+reads-alone m (n ∷ ns) = rw (read-unchanging m n) (reads-alone m ns)
