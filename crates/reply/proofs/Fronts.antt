@@ -3,11 +3,11 @@
 use Prim.Native.Nat.{ℕ, _+_, _≤_}
 use native.Mathlib.Nat.{zero-add}
 use native.Mathlib.Omega.{arith}
-use mathlib.Core.Path.{_≡_, refl, sym, ap, _∙_}
+use mathlib.Core.Path.{_≡_, refl, _∙_}
 use mathlib.Core.Bool.{Bool}
 use mathlib.Core.List.{List, []}
 use lib.ListN.{length, length-append}
-use Rattle.meaning.specs.Octets.{splice, flat}
+use Rattle.meaning.specs.Octets.{flat}
 use Rattle.meaning.specs.Reply.{Records}
 use Rattle.octets.specs.Writing.{Wrote}
 use Rattle.octets.specs.Filling.{fill, Apart, Adjoin, Filled}

@@ -6,7 +6,7 @@ use mathlib.Core.Logic.{_≢_}
 use mathlib.Core.Bool.{Bool, true, _||_, cond}
 use mathlib.Core.List.{List, [], _∷_, _++_, append-nil, append-assoc}
 use lib.Dec.{eqb}
-use lib.ListN.{length, drop}
+use lib.ListN.{length}
 use borrow.Author.Tests.{ne-eqb, leb-true}
 use Rattle.meaning.specs.Octets.{be16, flat, nonempty}
 use Rattle.meaning.specs.Operation.{parse, orNone}
@@ -20,7 +20,7 @@ use Rattle.records.proofs.Pieces.{Left, left-start, left-as, first-fits, left-n
 use Rattle.command.proofs.Sets.{long-of}
 use Rattle.tally.specs.declared.Tally.{Tally}
 use Rattle.tally.specs.Tallies as tallies
-use Rattle.tally.specs.Tallies.{tallyOf, readOctets, setOctets, elementLength, replyLength, tallyFits}
+use Rattle.tally.specs.Tallies.{readOctets, setOctets, elementLength, replyLength, tallyFits}
 use Rattle.tally.proofs.Lengths.{tally-fits, any-read, any-set, read-octets, set-octets, values-count, readErrors-count, updates-count, updateErrors-count, longUpdates-count, longUpdates-octets}
 use Rattle.section.specs.Kinds.{Values, ReadErrors, Updates, UpdateErrors, LongUpdates, order, section, recordsOf}
 use Rattle.reply.specs.Sections.{opening, further, longLength, front, piece, Ready, Fitting}

@@ -1,5 +1,5 @@
 -- The pass over the operations: what is known before each turn, what a turn writes, and what is written at the end.
-use Prim.Native.Nat.{ℕ, _≤_}
+use Prim.Native.Nat.{ℕ}
 use types.Run.{OneOf}
 use mathlib.Core.Path.{_≡_, refl, ap, _∙_}
 use mathlib.Core.Bool.{true}

@@ -1,5 +1,4 @@
 -- `octets::renew` meets its contract.
-use native.Mathlib.Omega.{arith}
 use borrow.Author.Needs.{needs}
 use Rattle.meaning.proofs.Tests.{denied}
 use Rattle.octets.proofs.Splices.{copied-whole}

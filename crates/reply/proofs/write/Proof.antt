@@ -12,7 +12,7 @@ use Rattle.records.proofs.Pieces.{Left, left-fits, left-last, at-start}
 use Rattle.command.proofs.Sets.{long-of}
 use Rattle.command.proofs.Unchanged.{after-unchanged}
 use Rattle.tally.specs.declared.Tally.{Tally}
-use Rattle.tally.specs.Tallies.{tallyOf, tallyFits}
+use Rattle.tally.specs.Tallies.{tallyOf}
 use Rattle.tally.proofs.Lengths.{asked-names}
 use Rattle.section.specs.Kinds.{order, recordsOf}
 use Rattle.section.specs.Places.{placeOf}

@@ -10,7 +10,7 @@ use Rattle.records.proofs.Pieces.{wrote-this}
 use Rattle.tally.specs.declared.Tally.{Tally}
 use Rattle.section.specs.Kinds.{Kind, Values, ReadErrors, Updates, UpdateErrors, LongUpdates}
 use Rattle.section.proofs.Shares.{fits-at}
-use Rattle.reply.specs.Sections.{front, begins}
+use Rattle.reply.specs.Sections.{opening, front, begins}
 use Rattle.reply.proofs.Parts.{few-values, few-readErrors, few-updates, few-updateErrors, read-small, set-small, long-small}
 use Rattle.reply.proofs.Fronts.{front-values, front-readErrors, front-updates, front-updateErrors, front-longUpdates, begin₂, begin₃, begin₄, begin₅, fronts-filled}
 use Rattle.reply.proofs.write_fronts.Statement.{statement}
@@ -40,8 +40,13 @@ module _ (c : tie.After-write-opening) where
   abbrev out₁ : List ℕ
   out₁ = c .write-opening .last .1 .1 .1 .1 .0
 
+  -- before the values stands the element's opening, with the count of the values
+  opened : Wrote (room start₁) (start₁ .args .at) (opening (c .before .before .before .before .any-read .result) 0x71 (c .before .before .read-octets .result) (tally start₁ .values .count))
+      (c .write-opening .result) out₁
+  opened = c .write-opening .ensures
+
   wrote₁ : Wrote (room start₁) (start₁ .args .at) (front (tally start₁) Values) (c .write-opening .result) out₁
-  wrote₁ = wrote-this _ _ (front-values (tally start₁) _ _ (c .before .before .before .before .any-read .ensures) (c .before .before .read-octets .ensures .0)) (c .write-opening .ensures)
+  wrote₁ = wrote-this _ _ (front-values (tally start₁) _ _ (c .before .before .before .before .any-read .ensures) (c .before .before .read-octets .ensures .0)) opened
 
   same₁ : length out₁ ≡ length (room start₁)
   same₁ = c .write-opening .kept .1 .1 .1 .1 .0

@@ -3,7 +3,6 @@ use Prim.Native.Nat.{ℕ}
 use native.Mathlib.Omega.{arith}
 use mathlib.Core.Path.{sym, ap, _∙_}
 use lib.Dec.{leb}
-use borrow.Author.Needs.{needs}
 use Rattle.meaning.specs.Block.{cycle}
 use Rattle.schedule.proofs.Blocks.{permitted-count, permitted-list, permitted-ratio, fit-none, fit-unheld, fit-held}
 use Rattle.schedule.proofs.fit_together.Statement.{statement}

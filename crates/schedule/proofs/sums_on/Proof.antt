@@ -1,7 +1,6 @@
 -- `schedule::sums_on` meets its contract: the sums so far, with the total and the weights of what is left of the part, come to the
 -- sums with those of the whole part.
 use Prim.Native.Nat.{_+_, _-_, _*_, _%_, _≤_, _<_}
-use native.Mathlib.Nat.{mod-eq-of-lt, mod-add-mod}
 use native.Mathlib.Omega.{arith}
 use mathlib.Core.Path.{_≡_, refl, sym, ap, _∙_}
 use mathlib.Core.List.{[]}

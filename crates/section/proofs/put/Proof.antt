@@ -13,7 +13,6 @@ use Rattle.operation.specs.Handing.{nameOf, fromOf, sizeOf}
 use Rattle.operation.proofs.Turns.{inside-name, inside-value}
 use Rattle.meaning.specs.Reply.{heldOctets, shortOctets}
 use Rattle.records.proofs.Pieces.{wrote-this}
-use Rattle.records.proofs.Lengths.{held-length, short-length, failed-length}
 use Rattle.section.proofs.Shares.{none-put, value-put, readError-put, updateError-put, short-put, long-put, value-fits, readError-fits, updateError-fits, short-fits, long-fits}
 use Rattle.section.proofs.put.Statement.{statement}
 use Rattle.section.proofs.put.Tie as tie
