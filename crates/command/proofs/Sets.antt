@@ -11,10 +11,10 @@ use lib.Seq.{take-all}
 use lib.Dec.{eqb}
 use borrow.Author.Tests.{lt-ltb, le-ltb, ne-eqb}
 use Rattle.meaning.specs.Octets.{splice, same, every}
-use Rattle.meaning.specs.Checks.{firstFailed, settle}
+use Rattle.meaning.specs.Checks.{firstFailed, whenPassed}
 use Rattle.meaning.specs.Table.{rows, rowAt, place, listed, byController, entryCount, memoryLength, adminBaseTime, adminControlListLength, adminControlList, adminCycleTime, commit}
 use Rattle.meaning.specs.Block.{permits, joinedBlock, formAndFit, sums}
-use Rattle.meaning.specs.Memory.{cell, room, size, present, body, pending, store, remark, fourPresent, sound}
+use Rattle.meaning.specs.Memory.{cell, room, size, present, body, pending, store, setMarks, fourPresent, sound}
 use Rattle.meaning.specs.Step.{block, commits, permitted, setChecks, stored, setMemory, subscribeMemory, unsubscribeMemory, setAnswer, readChecks, readAnswer, value, readError, update, updateError, shown}
 use Rattle.meaning.proofs.Sound.{opened, entry-of, four-at}
 use Rattle.octets.proofs.Splices.{splice-front}
@@ -105,16 +105,16 @@ block-in-room b h = h
 -- ---- a read
 
 pub read-unlisted : (m : List ℕ) (n : ℕ) → entryCount ≤ place n → readAnswer m n ≡ readError n 0x01
-unfolding readAnswer readChecks firstFailed settle listed
+unfolding readAnswer readChecks firstFailed whenPassed listed
 read-unlisted m n h = rw (le-ltb (place n) entryCount h)
 
 module _ (m : List ℕ) (n : ℕ) (h : place n < entryCount) where
   pub read-absent : present m (place n) ≡ false → readAnswer m n ≡ readError n 0x03
-  unfolding readAnswer readChecks firstFailed settle listed
+  unfolding readAnswer readChecks firstFailed whenPassed listed
   read-absent e = rw (lt-ltb (place n) entryCount h, e)
 
   pub read-value : present m (place n) ≡ true → readAnswer m n ≡ value n (shown m (place n))
-  unfolding readAnswer readChecks firstFailed settle listed
+  unfolding readAnswer readChecks firstFailed whenPassed listed
   read-value e = rw (lt-ltb (place n) entryCount h, e)
 
 -- ---- a value put at a place
@@ -133,28 +133,28 @@ abbrev Set : List ℕ → ℕ → List ℕ → ℕ → List ℕ → Type 0
 Set m n v cause after = (cause ≡ firstFailed (setChecks m n v)) × (after ≡ setMemory m n v)
 
 pub set-unlisted : (m : List ℕ) (n : ℕ) (v : List ℕ) → entryCount ≤ place n → Set m n v 0x01 m
-unfolding setMemory setChecks firstFailed settle listed
+unfolding setMemory setChecks firstFailed whenPassed listed
 set-unlisted m n v h = rw (le-ltb (place n) entryCount h) (refl, refl)
 
 module _ (m : List ℕ) (n k : ℕ) (v : List ℕ) (e : k ≡ place n) (h : k < entryCount) where
   pub set-foreign : byController (rowAt k .owner) ≡ false → Set m n v 0x6F m
-  unfolding setMemory setChecks firstFailed settle listed
+  unfolding setMemory setChecks firstFailed whenPassed listed
   set-foreign o = rw (← e, lt-ltb k entryCount h, o) (refl, refl)
 
   -- what a value put at the place leaves
   module _ (o : byController (rowAt k .owner) ≡ true) {t : Bool} {after : List ℕ} (p : t ≡ permitted m k v) (q : after ≡ cond (permitted m k v) (store m k (stored m k v)) m) where
     pub set-refused : t ≡ false → Set m n v 0x02 after
-    unfolding setMemory setChecks firstFailed settle listed
+    unfolding setMemory setChecks firstFailed whenPassed listed
     set-refused f = rw (q, ← e, lt-ltb k entryCount h, o, sym p ∙ f) (refl, refl)
 
     pub set-done : t ≡ true → Set m n v 0 after
-    unfolding setMemory setChecks firstFailed settle listed
+    unfolding setMemory setChecks firstFailed whenPassed listed
     set-done f = rw (q, ← e, lt-ltb k entryCount h, o, sym p ∙ f) (refl, refl)
 
 -- ---- marks
 
 module _ (m : List ℕ) (n k : ℕ) (e : k ≡ place n) where
-  pub subscribe-listed : {after : List ℕ} {q : Bool} → k < entryCount → q ≡ pending m k → after ≡ remark m k true q → after ≡ subscribeMemory m n
+  pub subscribe-listed : {after : List ℕ} {q : Bool} → k < entryCount → q ≡ pending m k → after ≡ setMarks m k true q → after ≡ subscribeMemory m n
   unfolding subscribeMemory listed
   subscribe-listed h q r = r ∙ rw (q, ← e, lt-ltb k entryCount h)
 
@@ -162,7 +162,7 @@ module _ (m : List ℕ) (n k : ℕ) (e : k ≡ place n) where
   unfolding subscribeMemory listed
   subscribe-unlisted h = rw (← e, le-ltb k entryCount h)
 
-  pub unsubscribe-listed : {after : List ℕ} → k < entryCount → after ≡ remark m k false false → after ≡ unsubscribeMemory m n
+  pub unsubscribe-listed : {after : List ℕ} → k < entryCount → after ≡ setMarks m k false false → after ≡ unsubscribeMemory m n
   unfolding unsubscribeMemory listed
   unsubscribe-listed h r = r ∙ rw (← e, lt-ltb k entryCount h)
 
@@ -173,10 +173,10 @@ module _ (m : List ℕ) (n k : ℕ) (e : k ≡ place n) where
 -- ---- the answer to a set, by its cause
 
 pub answer-update : (m : List ℕ) (n : ℕ) (v : List ℕ) → firstFailed (setChecks m n v) ≡ 0 → setAnswer m n v ≡ update n v
-unfolding setAnswer settle
+unfolding setAnswer whenPassed
 answer-update m n v e = rw e
 
 pub answer-cause : (m : List ℕ) (n cause : ℕ) (v : List ℕ) → cause ≡ firstFailed (setChecks m n v) → cause ≢ 0 → setAnswer m n v ≡ updateError n cause
-unfolding setAnswer settle
+unfolding setAnswer whenPassed
 answer-cause m n zero v e h = absurd (h refl)
 answer-cause m n (suc cause) v e h = rw (← e)

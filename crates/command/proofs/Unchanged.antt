@@ -3,7 +3,7 @@ use Prim.Native.Nat.{ℕ, zero, suc}
 use mathlib.Core.Path.{_≡_, refl}
 use mathlib.Core.Bool.{Bool, true, false, _||_, true≢false}
 use mathlib.Core.List.{List, [], _∷_, map}
-use Rattle.meaning.specs.Checks.{firstFailed, settle}
+use Rattle.meaning.specs.Checks.{firstFailed, whenPassed}
 use Rattle.meaning.specs.Operation.{Op, capabilities, read, set, subscribe, unsubscribe}
 use Rattle.meaning.specs.Table.{place}
 use Rattle.meaning.specs.Memory.{store}
@@ -15,12 +15,12 @@ neither true b e = absurd (true≢false e)
 neither false b e = (refl, e)
 
 pub step-unchanged : (m : List ℕ) (o : Op) → mayChange (answer m o) ≡ false → step m o ≡ m
-unfolding mayChange answer step setAnswer setMemory settle
+unfolding mayChange answer step setAnswer setMemory whenPassed
 step-unchanged m capabilities e = refl
 step-unchanged m (read n) e = refl
 step-unchanged m (set n v) e = go (firstFailed (setChecks m n v)) e
   where
-    go : (c : ℕ) → mayChange (settle c (update n v) (updateError n)) ≡ false → settle c (store m (place n) (stored m (place n) v)) (λ _. m) ≡ m
+    go : (c : ℕ) → mayChange (whenPassed c (update n v) (updateError n)) ≡ false → whenPassed c (store m (place n) (stored m (place n) v)) (λ _. m) ≡ m
     go zero e = absurd (true≢false e)
     go (suc c) e = refl
 step-unchanged m (subscribe n) e = absurd (true≢false e)
@@ -36,10 +36,10 @@ after-unchanged m (o ∷ os) e =
 
 -- a command of reads alone changes nothing
 read-unchanging : (m : List ℕ) (n : ℕ) → mayChange (readAnswer m n) ≡ false
-unfolding mayChange readAnswer settle
+unfolding mayChange readAnswer whenPassed
 read-unchanging m n = go (firstFailed (readChecks m n))
   where
-    go : (c : ℕ) → mayChange (settle c (value n (shown m (place n))) (readError n)) ≡ false
+    go : (c : ℕ) → mayChange (whenPassed c (value n (shown m (place n))) (readError n)) ≡ false
     go zero = refl
     go (suc c) = refl
 

@@ -22,17 +22,17 @@ answerOf m s o (UpdateError c) = updateError (nameOf o) c
 answerOf m s o Silent = silent
 
 -- a value read lies at a place of the table
-abbrev pub Told : Answer → Type 0
-Told Names = Unit {0}
-Told (Value k) = k < entryCount
-Told (ReadError c) = Unit {0}
-Told Update = Unit {0}
-Told (UpdateError c) = Unit {0}
-Told Silent = Unit {0}
+abbrev pub InTable : Answer → Type 0
+InTable Names = Unit {0}
+InTable (Value k) = k < entryCount
+InTable (ReadError c) = Unit {0}
+InTable Update = Unit {0}
+InTable (UpdateError c) = Unit {0}
+InTable Silent = Unit {0}
 
 -- the answer to a read of a name, whatever the list
 abbrev pub AnswersRead : List ℕ → ℕ → Answer → Type 0
-AnswersRead m n a = (s : List ℕ) (o : Op) → nameOf o ≡ n → (answerOf m s o a ≡ readAnswer m n) × Told a
+AnswersRead m n a = (s : List ℕ) (o : Op) → nameOf o ≡ n → (answerOf m s o a ≡ readAnswer m n) × InTable a
 
 -- an operation with this answer may have changed memory: a value set, or a mark
 unfoldable pub mayChange : step.Answer → Bool
@@ -48,5 +48,5 @@ anyChange [] = false
 anyChange (r ∷ rs) = mayChange r || anyChange rs
 
 -- whether an operation answered so may have changed memory, whatever memory, list and operation
-abbrev pub Tells : Answer → Bool → Type 0
-Tells a b = (m s : List ℕ) (o : Op) → b ≡ mayChange (answerOf m s o a)
+abbrev pub TellsChange : Answer → Bool → Type 0
+TellsChange a b = (m s : List ℕ) (o : Op) → b ≡ mayChange (answerOf m s o a)

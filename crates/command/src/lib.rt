@@ -9,7 +9,7 @@ ghost use Rattle.meaning.specs.Table.{memoryLength, entryCount, commit};
 ghost use Rattle.meaning.specs.Memory.{sound, store};
 ghost use Rattle.meaning.specs.Step.{block, commits, permitted, setChecks, stored, setMemory, subscribeMemory, unsubscribeMemory, step, answer};
 ghost use Rattle.operation.specs.Handing.{opOf, Inside};
-ghost use Rattle.command.specs.Answers.{answerOf, Told, AnswersRead, Tells};
+ghost use Rattle.command.specs.Answers.{answerOf, InTable, AnswersRead, TellsChange};
 use operation::Op;
 
 // An answer to an operation: all names; a value, by its place in the table, or a cause to a read; that the operation's value
@@ -30,10 +30,10 @@ fn read(m: &[u8], name: usize) -> Answer
 {
     let k = table::place_of(name);
     if table::ENTRY_COUNT <= k {
-        return Answer::ReadError(0x01);
+        return Answer::ReadError(wire::CAUSE_NOT_SUPPORTED);
     }
     if !memory::present(m, k) {
-        return Answer::ReadError(0x03);
+        return Answer::ReadError(wire::CAUSE_UNAVAILABLE);
     }
     Answer::Value(k as u8)
 }
@@ -54,7 +54,7 @@ fn put_commit(m: &mut [u8], v: &[u8]) -> bool
     if !schedule::fit_together(count, list, ratio) {
         return false;
     }
-    let mut joined = [0u8; 470];
+    let mut joined = [0u8; schedule::BLOCK_MOST];
     let n = schedule::join(base, count, list, ratio, &mut joined);
     if !schedule::sums_agree(&joined[0..n], v) {
         return false;
@@ -78,24 +78,27 @@ fn put_value(m: &mut [u8], k: usize, v: &[u8]) -> bool
     true
 }
 
-// A set: its cause, 0 where it succeeds.
+// What stands for a cause where a set succeeds.
+const NO_CAUSE: u8 = 0;
+
+// A set: its cause, or none where it succeeds.
 fn set(m: &mut [u8], name: usize, v: &[u8]) -> u8
     requires { ⌜ sound (now m) ≡ true ⌝ }
     ensures { λ r. ⌜ (r ≡ firstFailed (setChecks (now (m .entry)) name (now (v .entry)))) × (now (m .exit) ≡ setMemory (now (m .entry)) name (now (v .entry))) ⌝ }
 {
     let k = table::place_of(name);
     if table::ENTRY_COUNT <= k {
-        return 0x01;
+        return wire::CAUSE_NOT_SUPPORTED;
     }
     let row = table::row_at(k);
     let owner = row.owner;
     if !table::by_controller(owner) {
-        return 0x6F;
+        return wire::CAUSE_PROTOCOL_ERROR;
     }
     if !put_value(m, k, v) {
-        return 0x02;
+        return wire::CAUSE_INVALID_VALUE;
     }
-    0
+    NO_CAUSE
 }
 
 // The mark set; nothing on an unlisted name.
@@ -106,7 +109,7 @@ fn subscribe(m: &mut [u8], name: usize)
     let k = table::place_of(name);
     if k < table::ENTRY_COUNT {
         let q = memory::pending(m, k);
-        memory::remark(m, k, true, q);
+        memory::set_marks(m, k, true, q);
     }
 }
 
@@ -117,7 +120,7 @@ fn unsubscribe(m: &mut [u8], name: usize)
 {
     let k = table::place_of(name);
     if k < table::ENTRY_COUNT {
-        memory::remark(m, k, false, false);
+        memory::set_marks(m, k, false, false);
     }
 }
 
@@ -125,14 +128,14 @@ fn unsubscribe(m: &mut [u8], name: usize)
 pub fn carry_out(m: &mut [u8], list: &[u8], op: Op) -> Answer
     requires { ⌜ (sound (now m) ≡ true) × Inside (length (now list)) op ⌝ }
     ensures { λ _. ⌜ now (m .exit) ≡ step (now (m .entry)) (opOf (now (list .entry)) op) ⌝ }
-    ensures { λ r. ⌜ (answerOf (now (m .exit)) (now (list .entry)) op r ≡ answer (now (m .entry)) (opOf (now (list .entry)) op)) × Told r ⌝ }
+    ensures { λ r. ⌜ (answerOf (now (m .exit)) (now (list .entry)) op r ≡ answer (now (m .entry)) (opOf (now (list .entry)) op)) × InTable r ⌝ }
 {
     match op {
         Op::Capabilities => Answer::Names,
         Op::Read(name) => read(m, name),
         Op::Set(name, from, size) => {
             let cause = set(m, name, &list[from..from + size]);
-            if cause == 0 {
+            if cause == NO_CAUSE {
                 Answer::Update
             } else {
                 Answer::UpdateError(cause)
@@ -152,7 +155,7 @@ pub fn carry_out(m: &mut [u8], list: &[u8], op: Op) -> Answer
 // Whether an operation with this answer may have changed memory: a value set, or a mark. Names, reads and refused sets
 // leave it.
 pub fn changes(a: Answer) -> bool
-    ensures { λ r. ⌜ Tells a r ⌝ }
+    ensures { λ r. ⌜ TellsChange a r ⌝ }
 {
     match a {
         Answer::Names => false,

@@ -10,24 +10,24 @@ use lib.ListN.{length, take, drop, set}
 use denote.Enum.Declared.{tagOf}
 use borrow.Author.Tests.{le-leb, lt-leb, eq-eqb}
 use Rattle.meaning.specs.Octets.{nonempty, octet, at16, part, implies, every}
-use Rattle.meaning.specs.Checks.{firstFailed, settle}
+use Rattle.meaning.specs.Checks.{firstFailed, whenPassed}
 use Rattle.meaning.specs.Table.{place, entryCount, memoryLength}
-use Rattle.meaning.specs.Memory.{waiting, expiries, setClock, sound, fresh}
+use Rattle.meaning.specs.Memory.{waiting, expiries, setTimer, sound, fresh}
 use Rattle.meaning.specs.Operation.{Op, parse, isSome, orNone}
 use Rattle.meaning.specs.Step.{after}
 use Rattle.meaning.specs.Reply.{complete}
-use Rattle.meaning.specs.Calls.{localPermitted, localMemory, localChecks, localValue, reports, buildChecks, build, makeFresh, done, told, call, isCommand, isAcknowledgement, lengthField, operations, opsOf, records, carriedOut, acknowledged, deed, fits, messageChecks, message}
+use Rattle.meaning.specs.Calls.{localPermitted, localMemory, localChecks, localValue, reports, buildChecks, build, makeFresh, done, numberOnly, call, isCommand, isAcknowledgement, lengthField, operations, opsOf, records, carriedOut, acknowledged, effect, fits, messageChecks, message}
 use Rattle.meaning.specs.Calls as calls
 use Rattle.meaning.proofs.Numbers.{Taken, Measured, length-right}
 use Rattle.octets.proofs.Splices.{part-is}
 use Rattle.endpoint.specs.declared.Outcome.{Outcome}
-use Rattle.endpoint.specs.declared.Outcome.the-variants.{Done, MemoryUnsound, MessageEmpty, MessageTooLong, TypeUnknown, LengthWrong, OperationMalformed, NoRoom, Idle, NothingPending, AlreadyWaiting, RoomTooSmall, NotPermitted, SendAgain, GivenUp}
+use Rattle.endpoint.specs.declared.Outcome.the-variants.{Done, MemoryUnsound, MessageEmpty, MessageTooLong, TypeUnknown, LengthWrong, OperationMalformed, ReplyDoesNotFit, Idle, NothingPending, AlreadyWaiting, NotificationRoomTooSmall, NotPermitted, SendAgain, GivenUp}
 use Rattle.endpoint.specs.Outcomes.{numberOf, lengthOf, Gives, reply, command, acknowledgement}
 use Rattle.endpoint.proofs.Outcome.{the-type}
 
 -- a refusal: the number, and nothing changed
-pub gives-told : (m room : List ℕ) (n : ℕ) (r : Outcome) {o : calls.Outcome} → o ≡ told n m room → numberOf r ≡ n → lengthOf r ≡ 0 → Gives o r m room
-gives-told m room n r e a b = rw e (record { number = a; written = b; memoryIs = refl; roomIs = refl })
+pub gives-number : (m room : List ℕ) (n : ℕ) (r : Outcome) {o : calls.Outcome} → o ≡ numberOnly n m room → numberOf r ≡ n → lengthOf r ≡ 0 → Gives o r m room
+gives-number m room n r e a b = rw e (record { number = a; written = b; memoryIs = refl; roomIs = refl })
 
 pub gives-done : (w m room : List ℕ) (n : ℕ) {o : calls.Outcome} {m′ room′ : List ℕ} → o ≡ done w m room → n ≡ length w → m′ ≡ m → room′ ≡ w ++ drop (length w) room
     → Gives o (Done n) m′ room′
@@ -35,7 +35,7 @@ unfolding numberOf lengthOf
 gives-done w m room n e a b c = rw e (record { number = refl; written = a; memoryIs = b; roomIs = c })
 
 -- a call without a room: nothing written, and the memory that it leaves
-pub gives-left : (m : List ℕ) (n : ℕ) (r : Outcome) {o : calls.Outcome} {m′ : List ℕ} → o ≡ told n m [] → numberOf r ≡ n → lengthOf r ≡ 0 → m′ ≡ m → Gives o r m′ []
+pub gives-left : (m : List ℕ) (n : ℕ) (r : Outcome) {o : calls.Outcome} {m′ : List ℕ} → o ≡ numberOnly n m [] → numberOf r ≡ n → lengthOf r ≡ 0 → m′ ≡ m → Gives o r m′ []
 gives-left m n r e a b c = rw e (record { number = a; written = b; memoryIs = c; roomIs = refl })
 
 -- ---- a whole list of operations
@@ -43,26 +43,26 @@ gives-left m n r e a b c = rw e (record { number = a; written = b; memoryIs = c;
 module _ (m list room : List ℕ) where
   pub command-fits : fits (length room) (carriedOut m (orNone (parse list))) ≡ true
       → command m list room ≡ done (complete (records m (orNone (parse list)))) (after m (orNone (parse list))) room
-  unfolding command reply call firstFailed settle carriedOut
+  unfolding command reply call firstFailed whenPassed carriedOut
   command-fits e = rw e
 
-  pub command-7 : fits (length room) (carriedOut m (orNone (parse list))) ≡ false → command m list room ≡ told 7 m room
-  unfolding command reply call firstFailed settle
+  pub command-7 : fits (length room) (carriedOut m (orNone (parse list))) ≡ false → command m list room ≡ numberOnly 7 m room
+  unfolding command reply call firstFailed whenPassed
   command-7 e = rw e
 
 -- ---- an acknowledgement
 
 module _ (m room : List ℕ) where
-  pub acknowledgement-8 : waiting m ≡ false → acknowledgement m room ≡ told 8 m room
-  unfolding acknowledgement call firstFailed settle
+  pub acknowledgement-8 : waiting m ≡ false → acknowledgement m room ≡ numberOnly 8 m room
+  unfolding acknowledgement call firstFailed whenPassed
   acknowledgement-8 e = rw e
 
-  pub acknowledgement-7 : waiting m ≡ true → length room < 1 → acknowledgement m room ≡ told 7 m room
-  unfolding acknowledgement call firstFailed settle fits acknowledged every
+  pub acknowledgement-7 : waiting m ≡ true → length room < 1 → acknowledgement m room ≡ numberOnly 7 m room
+  unfolding acknowledgement call firstFailed whenPassed fits acknowledged every
   acknowledgement-7 e h = rw (e, lt-leb 1 (length room) h)
 
-  pub acknowledgement-fits : waiting m ≡ true → 1 ≤ length room → acknowledgement m room ≡ done (5 ∷ []) (setClock m 0 0) room
-  unfolding acknowledgement call firstFailed settle fits acknowledged every
+  pub acknowledgement-fits : waiting m ≡ true → 1 ≤ length room → acknowledgement m room ≡ done (5 ∷ []) (setTimer m 0 0) room
+  unfolding acknowledgement call firstFailed whenPassed fits acknowledged every
   acknowledgement-fits e h = rw (e, le-leb 1 (length room) h)
 
 -- ---- a message, once the checks before have passed
@@ -79,31 +79,31 @@ not-whole (some os) e = absurd (false≢true (sym e))
 
 module _ (m s room : List ℕ) where
   pub message-acknowledgement : Taken m s → octet s 0 ≡ 4 → message m s room ≡ acknowledgement m room
-  unfolding message messageChecks acknowledgement call firstFailed isCommand isAcknowledgement implies deed
+  unfolding message messageChecks acknowledgement call firstFailed isCommand isAcknowledgement implies effect
   message-acknowledgement t e = simp (t .isSound, le-leb 1 (length s) (t .nonzero), le-leb (length s) 2048 (t .short), e)
 
   pub message-command : Measured m s → isSome (parse (operations s)) ≡ true → message m s room ≡ command m (operations s) room
-  unfolding message messageChecks command reply call firstFailed isCommand isAcknowledgement implies deed opsOf
+  unfolding message messageChecks command reply call firstFailed isCommand isAcknowledgement implies effect opsOf
   message-command l w =
       simp (l .taken .isSound, le-leb 1 (length s) (l .taken .nonzero), le-leb (length s) 2048 (l .taken .short), l .type, length-right m s l, w)
 
 -- ---- the other calls, where their checks have passed
 
-pub local-does : (m : List ℕ) (n k : ℕ) (v : List ℕ) → k ≡ place n → sound m ≡ true → localPermitted n v ≡ true → localValue m n v ≡ told 0 (localMemory m k v) []
-unfolding localValue localChecks call firstFailed settle
+pub local-does : (m : List ℕ) (n k : ℕ) (v : List ℕ) → k ≡ place n → sound m ≡ true → localPermitted n v ≡ true → localValue m n v ≡ numberOnly 0 (localMemory m k v) []
+unfolding localValue localChecks call firstFailed whenPassed
 local-does m n k v e s p = rw (e, s, p)
 
-pub fresh-does : (m : List ℕ) → length m ≡ memoryLength → makeFresh m ≡ told 0 fresh []
-unfolding makeFresh call firstFailed settle
+pub fresh-does : (m : List ℕ) → length m ≡ memoryLength → makeFresh m ≡ numberOnly 0 fresh []
+unfolding makeFresh call firstFailed whenPassed
 fresh-does m h = rw (eq-eqb (length m) memoryLength h)
 
 -- one expiry more, with the count as the memory says it
-pub counted-on : (m : List ℕ) {n : ℕ} {m′ : List ℕ} → n ≡ expiries m → m′ ≡ setClock m 1 (n + 1) → m′ ≡ setClock m 1 (expiries m + 1)
-counted-on m e f = f ∙ ap (λ (k : ℕ). setClock m 1 (k + 1)) e
+pub counted-on : (m : List ℕ) {n : ℕ} {m′ : List ℕ} → n ≡ expiries m → m′ ≡ setTimer m 1 (n + 1) → m′ ≡ setTimer m 1 (expiries m + 1)
+counted-on m e f = f ∙ ap (λ (k : ℕ). setTimer m 1 (k + 1)) e
 
 module _ (m room : List ℕ) (s : sound m ≡ true) (h : 1600 ≤ length room) (w : waiting m ≡ false) where
-  pub build-nothing : nonempty (reports m entryCount) ≡ false → build m room ≡ told 9 m room
-  unfolding build buildChecks call firstFailed settle
+  pub build-nothing : nonempty (reports m entryCount) ≡ false → build m room ≡ numberOnly 9 m room
+  unfolding build buildChecks call firstFailed whenPassed
   build-nothing n = simp (s, le-leb 1600 (length room) h, w, n)
 
 -- ---- what is said of an outcome
@@ -117,11 +117,11 @@ nothing-written MessageTooLong t = refl
 nothing-written TypeUnknown t = refl
 nothing-written LengthWrong t = refl
 nothing-written OperationMalformed t = refl
-nothing-written NoRoom t = refl
+nothing-written ReplyDoesNotFit t = refl
 nothing-written Idle t = refl
 nothing-written NothingPending t = refl
 nothing-written AlreadyWaiting t = refl
-nothing-written RoomTooSmall t = refl
+nothing-written NotificationRoomTooSmall t = refl
 nothing-written NotPermitted t = refl
 nothing-written SendAgain t = refl
 nothing-written GivenUp t = refl

@@ -1,4 +1,4 @@
 -- Laws that the proofs of `endpoint` share, and those about what its contracts say.
 pub mod Exits
-pub mod Told
+pub mod OneOutcome
 pub mod Reached

@@ -11,7 +11,7 @@ use Rattle.meaning.proofs.Lists.{Each, Octets}
 use Rattle.meaning.proofs.Decode.{decode}
 use Rattle.meaning.proofs.Cut.{commandOf, Part, joinedParts, sends, lastMemory, joinedReplies, CarriedOut, cut}
 use Rattle.endpoint.specs.Outcomes.{numberOf, lengthOf}
-use Rattle.endpoint.proofs.Told.{Seen, Allows, message-written}
+use Rattle.endpoint.proofs.OneOutcome.{Seen, Allows, message-written}
 
 -- the reply that a caller finds in the room
 abbrev pub replyIn : Seen → List ℕ

@@ -6,10 +6,10 @@ use lib.ListN.{length}
 use Rattle.meaning.specs.Checks.{passed, check}
 use Rattle.meaning.specs.Memory.{waiting}
 use Rattle.meaning.specs.Operation.{parse, orNone}
-use Rattle.meaning.specs.Calls.{Deed, done, call, carriedOut, acknowledged, fits}
+use Rattle.meaning.specs.Calls.{Effect, done, call, carriedOut, acknowledged, fits}
 use Rattle.meaning.specs.Calls as calls
 use Rattle.endpoint.specs.declared.Outcome.{Outcome}
-use Rattle.endpoint.specs.declared.Outcome.the-variants.{Done, MemoryUnsound, MessageEmpty, MessageTooLong, TypeUnknown, LengthWrong, OperationMalformed, NoRoom, Idle, NothingPending, AlreadyWaiting, RoomTooSmall, NotPermitted, SendAgain, GivenUp}
+use Rattle.endpoint.specs.declared.Outcome.the-variants.{Done, MemoryUnsound, MessageEmpty, MessageTooLong, TypeUnknown, LengthWrong, OperationMalformed, ReplyDoesNotFit, Idle, NothingPending, AlreadyWaiting, NotificationRoomTooSmall, NotPermitted, SendAgain, GivenUp}
 
 unfoldable pub numberOf : Outcome → ℕ
 numberOf (Done n) = 0
@@ -19,11 +19,11 @@ numberOf MessageTooLong = 3
 numberOf TypeUnknown = 4
 numberOf LengthWrong = 5
 numberOf OperationMalformed = 6
-numberOf NoRoom = 7
+numberOf ReplyDoesNotFit = 7
 numberOf Idle = 8
 numberOf NothingPending = 9
 numberOf AlreadyWaiting = 10
-numberOf RoomTooSmall = 11
+numberOf NotificationRoomTooSmall = 11
 numberOf NotPermitted = 12
 numberOf SendAgain = 20
 numberOf GivenUp = 21
@@ -36,11 +36,11 @@ lengthOf MessageTooLong = 0
 lengthOf TypeUnknown = 0
 lengthOf LengthWrong = 0
 lengthOf OperationMalformed = 0
-lengthOf NoRoom = 0
+lengthOf ReplyDoesNotFit = 0
 lengthOf Idle = 0
 lengthOf NothingPending = 0
 lengthOf AlreadyWaiting = 0
-lengthOf RoomTooSmall = 0
+lengthOf NotificationRoomTooSmall = 0
 lengthOf NotPermitted = 0
 lengthOf SendAgain = 0
 lengthOf GivenUp = 0
@@ -54,7 +54,7 @@ pub record Gives (o : calls.Outcome) (r : Outcome) (memory room : List ℕ) : Ty
 
 -- what is left to decide once a message's checks before it have passed: its reply fits
 
-unfoldable pub reply : Deed → List ℕ → List ℕ → calls.Outcome
+unfoldable pub reply : Effect → List ℕ → List ℕ → calls.Outcome
 reply d m room = call (check 7 (fits (length room) d) passed) (done (d .reply) (d .memory) room) m room
 
 -- a whole list of operations

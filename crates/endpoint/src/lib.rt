@@ -18,19 +18,40 @@
 // is lent nothing, so it gives the octets themselves.
 //
 // No call asks for anything: none has a `requires`. Each contract says by a definition of `meaning` under the call's name
-// what is answered and what every lent octet holds afterwards, and allows one outcome alone (`one-outcome`, in `Told`).
+// what is answered and what every lent octet holds afterwards, and allows one outcome alone (`one-outcome`, in `OneOutcome`).
 ghost use Prim.Native.Nat.{_≤_};
 ghost use mathlib.Core.Path.{_≡_};
 ghost use mathlib.Core.Bool.{true};
 ghost use mathlib.Core.List.{[]};
 ghost use lib.ListN.{length};
 ghost use Rattle.meaning.specs.Octets.{octet};
+ghost use Rattle.meaning.specs.Wire.{typeCommand, messageMost};
 ghost use Rattle.meaning.specs.Memory.{sound};
 ghost use Rattle.meaning.specs.Operation.{parse, isSome};
 ghost use Rattle.meaning.specs.Delay.{delay};
 ghost use Rattle.meaning.specs.Calls.{message, localValue, build, expiry, makeFresh};
 ghost use Rattle.endpoint.specs.Outcomes.{numberOf, lengthOf, Gives, acknowledgement, command};
 use delay::Nanoseconds;
+
+// What a host lends and keeps, in octets: the memory of a port; the longest message that is not refused for its length; a
+// room that takes every reply; a room that a notification is built in, and the longest notification, which is to be kept.
+pub const MEMORY_LENGTH: usize = table::MEMORY_LENGTH;
+
+pub const MESSAGE_MOST: usize = wire::MESSAGE_MOST;
+
+pub const REPLY_MOST: usize = wire::REPLY_MOST;
+
+pub const NOTIFICATION_ROOM: usize = wire::NOTIFICATION_ROOM;
+
+pub const NOTIFICATION_MOST: usize = wire::NOTIFICATION_MOST;
+
+// Where the running block stands in memory: an octet whose lowest bit says that one runs, two octets with its length, and
+// the block itself.
+pub const RUNNING_FLAGS_AT: usize = table::CELL_LENGTH * table::COMMIT + table::FLAGS_AT;
+
+pub const RUNNING_LENGTH_AT: usize = table::CELL_LENGTH * table::COMMIT + table::SIZE_AT;
+
+pub const RUNNING_AT: usize = table::RUNNING_AT;
 
 // What a call answers: done, with the length of what it wrote; twelve reasons why nothing was done; that a waiting
 // notification is to be sent again, or has been given up.
@@ -42,11 +63,11 @@ pub enum Outcome {
     TypeUnknown,
     LengthWrong,
     OperationMalformed,
-    NoRoom,
+    ReplyDoesNotFit,
     Idle,
     NothingPending,
     AlreadyWaiting,
-    RoomTooSmall,
+    NotificationRoomTooSmall,
     NotPermitted,
     SendAgain,
     GivenUp,
@@ -64,11 +85,11 @@ pub fn number(outcome: Outcome) -> usize
         Outcome::TypeUnknown => 4,
         Outcome::LengthWrong => 5,
         Outcome::OperationMalformed => 6,
-        Outcome::NoRoom => 7,
+        Outcome::ReplyDoesNotFit => 7,
         Outcome::Idle => 8,
         Outcome::NothingPending => 9,
         Outcome::AlreadyWaiting => 10,
-        Outcome::RoomTooSmall => 11,
+        Outcome::NotificationRoomTooSmall => 11,
         Outcome::NotPermitted => 12,
         Outcome::SendAgain => 20,
         Outcome::GivenUp => 21,
@@ -94,24 +115,24 @@ fn acknowledge(memory: &mut [u8], room: &mut [u8]) -> Outcome
         return Outcome::Idle;
     }
     if room.len() < 1 {
-        return Outcome::NoRoom;
+        return Outcome::ReplyDoesNotFit;
     }
-    room[0] = 5;
-    memory::set_clock(memory, 0, 0);
+    room[0] = wire::TYPE_NOTIFY_COMPLETE;
+    memory::set_timer(memory, table::IDLE, 0);
     Outcome::Done(1)
 }
 
 // A whole list of operations, carried out on a working copy; the copy becomes the memory when the reply is known to fit.
 fn carry_out(memory: &mut [u8], list: &[u8], room: &mut [u8]) -> Outcome
-    requires { ⌜ (sound (now memory) ≡ true) × (isSome (parse (now list)) ≡ true) × (length (now list) ≤ 2048) ⌝ }
+    requires { ⌜ (sound (now memory) ≡ true) × (isSome (parse (now list)) ≡ true) × (length (now list) ≤ messageMost) ⌝ }
     ensures { λ r. ⌜ Gives (command (now (memory .entry)) (now (list .entry)) (now (room .entry))) r (now (memory .exit)) (now (room .exit)) ⌝ }
 {
-    let mut copy = [0u8; 2100];
+    let mut copy = [0u8; MEMORY_LENGTH];
     let taken = tally::take(memory, list, &mut copy);
     let t = taken.tally;
     let n = tally::reply_length(t);
     if !tally::fits(t, n, room.len()) {
-        return Outcome::NoRoom;
+        return Outcome::ReplyDoesNotFit;
     }
     reply::write(memory, list, t, taken.changed, &mut copy, room);
     octets::renew(memory, &copy, taken.changed);
@@ -120,20 +141,20 @@ fn carry_out(memory: &mut [u8], list: &[u8], room: &mut [u8]) -> Outcome
 
 // A message of type 01: its length, and whether every operation is whole.
 fn take_command(memory: &mut [u8], sent: &[u8], room: &mut [u8]) -> Outcome
-    requires { ⌜ (sound (now memory) ≡ true) × (1 ≤ length (now sent)) × (length (now sent) ≤ 2048) × (octet (now sent) 0 ≡ 1) ⌝ }
+    requires { ⌜ (sound (now memory) ≡ true) × (1 ≤ length (now sent)) × (length (now sent) ≤ messageMost) × (octet (now sent) 0 ≡ typeCommand) ⌝ }
     ensures { λ r. ⌜ Gives (message (now (memory .entry)) (now (sent .entry)) (now (room .entry))) r (now (memory .exit)) (now (room .exit)) ⌝ }
 {
-    if sent.len() < 3 {
+    if sent.len() < wire::COMMAND_HEAD {
         return Outcome::LengthWrong;
     }
     let n = octets::get16(sent, 1);
     if n == 0 {
         return Outcome::LengthWrong;
     }
-    if sent.len() < 3 + n {
+    if sent.len() < wire::COMMAND_HEAD + n {
         return Outcome::LengthWrong;
     }
-    let list = &sent[3..3 + n];
+    let list = &sent[wire::COMMAND_HEAD..wire::COMMAND_HEAD + n];
     if !operation::whole(list) {
         return Outcome::OperationMalformed;
     }
@@ -150,12 +171,12 @@ pub fn message(memory: &mut [u8], sent: &[u8], room: &mut [u8]) -> Outcome
     if sent.len() < 1 {
         return Outcome::MessageEmpty;
     }
-    if 2048 < sent.len() {
+    if MESSAGE_MOST < sent.len() {
         return Outcome::MessageTooLong;
     }
     match sent[0] {
-        1 => take_command(memory, sent, room),
-        4 => acknowledge(memory, room),
+        wire::TYPE_COMMAND => take_command(memory, sent, room),
+        wire::TYPE_NOTIFY_ACK => acknowledge(memory, room),
         _ => Outcome::TypeUnknown,
     }
 }
@@ -181,8 +202,8 @@ pub fn build(memory: &mut [u8], room: &mut [u8]) -> Outcome
     if !soundness::sound(memory) {
         return Outcome::MemoryUnsound;
     }
-    if room.len() < 1600 {
-        return Outcome::RoomTooSmall;
+    if room.len() < NOTIFICATION_ROOM {
+        return Outcome::NotificationRoomTooSmall;
     }
     if memory::waiting(memory) {
         return Outcome::AlreadyWaiting;
@@ -193,7 +214,7 @@ pub fn build(memory: &mut [u8], room: &mut [u8]) -> Outcome
     }
     let end = notification::write(memory, due, room);
     notification::clear(memory);
-    memory::set_clock(memory, 1, 0);
+    memory::set_timer(memory, table::WAITING, 0);
     Outcome::Done(end)
 }
 
@@ -208,11 +229,11 @@ pub fn expiry(memory: &mut [u8]) -> Outcome
         return Outcome::Idle;
     }
     let n = memory::expiries(memory);
-    if n < 4 {
-        memory::set_clock(memory, 1, n + 1);
+    if n < wire::EXPIRIES_MOST {
+        memory::set_timer(memory, table::WAITING, n + 1);
         return Outcome::SendAgain;
     }
-    memory::set_clock(memory, 0, 0);
+    memory::set_timer(memory, table::IDLE, 0);
     Outcome::GivenUp
 }
 
@@ -220,7 +241,7 @@ pub fn expiry(memory: &mut [u8]) -> Outcome
 pub fn make_fresh(memory: &mut [u8]) -> Outcome
     ensures { λ r. ⌜ Gives (makeFresh (now (memory .entry))) r (now (memory .exit)) [] ⌝ }
 {
-    if memory.len() != table::MEMORY_LENGTH {
+    if memory.len() != MEMORY_LENGTH {
         return Outcome::MemoryUnsound;
     }
     memory::make_fresh(memory);

@@ -8,7 +8,7 @@ use lib.ListN.{length, length-take}
 use lib.Dec.{eqb, leb}
 use borrow.Author.Tests.{leb-true, leb-false}
 use Rattle.meaning.specs.Octets.{part, be16}
-use Rattle.meaning.specs.Checks.{passed, check, firstFailed, settle}
+use Rattle.meaning.specs.Checks.{passed, check, firstFailed, whenPassed}
 use Rattle.meaning.specs.Table.{rowAt, place, listed, byController, entryCount, commit}
 use Rattle.meaning.specs.Block.{sums}
 use Rattle.meaning.specs.Memory.{present, body, room, store}
@@ -111,11 +111,11 @@ answered-counts (unsubscribes a) = let c = answered-counts a in record { readAns
 -- ---- the records of a run are such
 
 read-answered : (m : List ℕ) (n : ℕ) (os : List Op) (r : Records) → Answered m os r → Answered m (read n ∷ os) (joined (recordOf (readAnswer m n)) r)
-unfolding readAnswer readChecks firstFailed settle recordOf
+unfolding readAnswer readChecks firstFailed whenPassed recordOf
 read-answered m n os r a = go (listed n) refl (present m (place n)) refl
   where
     go : (b : Bool) → listed n ≡ b → (d : Bool) → present m (place n) ≡ d
-        → Answered m (read n ∷ os) (joined (recordOf (settle (firstFailed (check 0x01 b (check 0x03 d passed))) (value n (shown m (place n))) (readError n))) r)
+        → Answered m (read n ∷ os) (joined (recordOf (whenPassed (firstFailed (check 0x01 b (check 0x03 d passed))) (value n (shown m (place n))) (readError n))) r)
     go true e true f = readsValue e f a
     go true e false f = readsAbsent e f a
     go false e d f = readsUnlisted e a
@@ -124,10 +124,10 @@ module _ (m : List ℕ) (n : ℕ) (v : List ℕ) (os : List Op) (r : List ℕ �
   abbrev After : ℕ → Type 0
   After c =
       Answered m (set n v ∷ os)
-      (joined (recordOf (settle c (update n v) (updateError n))) (r (settle c (successor m n v) (λ _. m))))
+      (joined (recordOf (whenPassed c (update n v) (updateError n))) (r (whenPassed c (successor m n v) (λ _. m))))
 
   set-done : Settable m n v → After 0
-  unfolding settle recordOf
+  unfolding whenPassed recordOf
   set-done s = go (leb (length v) 255) refl
     where
       go : (b : Bool) → leb (length v) 255 ≡ b
@@ -137,7 +137,7 @@ module _ (m : List ℕ) (n : ℕ) (v : List ℕ) (os : List Op) (r : List ℕ �
       go false e = setsLong s (leb-false _ _ e) (a (successor m n v))
 
   set-answered : After (firstFailed (setChecks m n v))
-  unfolding setChecks firstFailed settle recordOf
+  unfolding setChecks firstFailed whenPassed recordOf
   set-answered = go (listed n) refl (byController (rowAt (place n) .owner)) refl (permitted m (place n) v) refl
     where
       go : (b : Bool) → listed n ≡ b → (c : Bool) → byController (rowAt (place n) .owner) ≡ c → (d : Bool) → permitted m (place n) v ≡ d
@@ -182,19 +182,19 @@ shown-length m k h = go (eqb k commit)
     go true = omega (arith, sums-length (body m commit))
     go false = omega (arith, body-length m k, most-small k h)
 
-settled-good : (P : Answer → Type 0) (c : ℕ) (a : Answer) (f : ℕ → Answer) → (c ≡ 0 → P a) → ((k : ℕ) → P (f k)) → P (settle c a f)
-unfolding settle
-settled-good P zero a f p q = p refl
-settled-good P (suc c) a f p q = q (suc c)
+passed-good : (P : Answer → Type 0) (c : ℕ) (a : Answer) (f : ℕ → Answer) → (c ≡ 0 → P a) → ((k : ℕ) → P (f k)) → P (whenPassed c a f)
+unfolding whenPassed
+passed-good P zero a f p q = p refl
+passed-good P (suc c) a f p q = q (suc c)
 
 answer-good : (m : List ℕ) (o : Op) → Fine o → GoodAnswer (answer m o)
 unfolding answer readAnswer setAnswer readChecks
 answer-good m capabilities f = tt
 answer-good m (read n) f =
-    settled-good GoodAnswer (firstFailed (readChecks m n)) (value n (shown m (place n))) (readError n)
+    passed-good GoodAnswer (firstFailed (readChecks m n)) (value n (shown m (place n))) (readError n)
     (λ e. (f, shown-length m (place n) (listed-place n (first-passed 0 _ _ e .0))))
     (λ k. f)
-answer-good m (set n v) f = settled-good GoodAnswer (firstFailed (setChecks m n v)) (update n v) (updateError n) (λ e. f) (λ k. f .0)
+answer-good m (set n v) f = passed-good GoodAnswer (firstFailed (setChecks m n v)) (update n v) (updateError n) (λ e. f) (λ k. f .0)
 answer-good m (subscribe n) f = tt
 answer-good m (unsubscribe n) f = tt
 

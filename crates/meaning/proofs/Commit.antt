@@ -12,7 +12,7 @@ use lib.Seq.{take-at, drop-at, take-length}
 use borrow.Author.Tests.{leb-true, ltb-true, eqb-true, le-leb, lt-ltb, eq-eqb}
 use Rattle.meaning.specs.Octets.{octet, at32, be16, part, every, same}
 use Rattle.meaning.specs.Table.{rowAt, rows, adminBaseTime, adminControlListLength, adminControlList, adminCycleTime, entryCount}
-use Rattle.meaning.specs.Block.{number, timeOk, entriesOf, interval, entryOk, eachOk, listOk, intervals, ratioOk, cycle, sums, joinedBlock, baseOf, countOf, listOf, ratioOf, formAndFit, permits}
+use Rattle.meaning.specs.Block.{asNumber, timeOk, entriesOf, interval, entryOk, eachOk, listOk, intervals, ratioOk, cycle, sums, joinedBlock, baseOf, countOf, listOf, ratioOf, formAndFit, permits}
 use Rattle.meaning.specs.Memory.{present, body, fourPresent}
 use Rattle.meaning.specs.Step.{block, commits}
 use Rattle.meaning.proofs.Lists.{Each}
@@ -58,10 +58,10 @@ module _ (b c l r : List ℕ) (hb : length b ≡ 10) (hc : length c ≡ 4) (hr :
       ≡ every
       (leb 22 (22 + length l)
       ∷ timeOk b
-      ∷ leb (number c) 64
+      ∷ leb (asNumber c) 64
       ∷ listOk l
       ∷ ratioOk r
-      ∷ eqb (number c) (length l / 7)
+      ∷ eqb (asNumber c) (length l / 7)
       ∷ leb 1 (length l / 7)
       ∷ leb (intervals (entriesOf l)) (cycle r)
       ∷ [])
@@ -97,7 +97,7 @@ pub record Commits (m v : List ℕ) : Type 0 where
   pub nanoseconds : at32 (body m adminBaseTime) 6 < 1000000000
   pub sevens : length (body m adminControlList) % 7 ≡ 0
   pub entries : Each EntryRule (entriesOf (body m adminControlList))
-  pub holdsCount : number (body m adminControlListLength) ≡ length (body m adminControlList) / 7
+  pub holdsCount : asNumber (body m adminControlListLength) ≡ length (body m adminControlList) / 7
   pub atLeastOne : 1 ≤ length (body m adminControlList) / 7
   pub atMost : length (body m adminControlList) / 7 ≤ 64
   pub denominator : 1 ≤ at32 (body m adminCycleTime) 4
@@ -145,10 +145,10 @@ module _ (m v : List ℕ) (S : Sound m) where
       ≡ every
       (leb 22 (22 + length list)
       ∷ timeOk base
-      ∷ leb (number count) 64
+      ∷ leb (asNumber count) 64
       ∷ listOk list
       ∷ ratioOk ratio′
-      ∷ eqb (number count) (length list / 7)
+      ∷ eqb (asNumber count) (length list / 7)
       ∷ leb 1 (length list / 7)
       ∷ leb (intervals (entriesOf list)) (cycle ratio′)
       ∷ [])
@@ -165,8 +165,8 @@ module _ (m v : List ℕ) (S : Sound m) where
       let t = committing m v e in
       let f = t .four in
       let g = sym (block-form f) ∙ t .form in
-      let n : number count ≡ length list / 7 = eqb-true _ _ (every-at _ 5 g) in
-      let k : number count ≤ 64 = leb-true _ _ (every-at _ 2 g) in
+      let n : asNumber count ≡ length list / 7 = eqb-true _ _ (every-at _ 5 g) in
+      let k : asNumber count ≤ 64 = leb-true _ _ (every-at _ 2 g) in
       let w : listOk list ≡ true = every-at _ 3 g in
       record {
         basePresent = four-at m 0 f;
@@ -192,7 +192,7 @@ module _ (m v : List ℕ) (S : Sound m) where
       ∙ simp (
         le-leb 22 (22 + length list) (omega arith),
         lt-ltb _ _ (c .nanoseconds),
-        le-leb (number count) 64 (omega (arith, c .holdsCount, c .atMost)),
+        le-leb (asNumber count) 64 (omega (arith, c .holdsCount, c .atMost)),
         eq-eqb _ _ (c .sevens),
         rule-each (entriesOf list) (c .entries),
         le-leb _ _ (c .denominator),

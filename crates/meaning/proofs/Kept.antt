@@ -10,19 +10,19 @@ use lib.ListN.{length}
 use lib.Dec.{eqb}
 use borrow.Author.Tests.{leb-true, eqb-true, eq-eqb, ne-eqb, le-leb, lt-ltb, le-ltb}
 use Rattle.meaning.specs.Octets.{every, implies, nonempty, part}
-use Rattle.meaning.specs.Checks.{firstFailed, settle}
+use Rattle.meaning.specs.Checks.{firstFailed, whenPassed}
 use Rattle.meaning.specs.Table.{Row, rowAt, rows, byPort, byController, place, listed, entryCount, memoryLength, commit}
-use Rattle.meaning.specs.Block.{sums, permits, keeps, formAndFit, listOf, listOk, countOf, number}
-use Rattle.meaning.specs.Memory.{cell, store, remark, setClock, subscribed, pending, isPending, isSubscribed, expiries, fourPresent, clockSound, sound, fresh}
+use Rattle.meaning.specs.Block.{sums, permits, keeps, formAndFit, listOf, listOk, countOf, asNumber}
+use Rattle.meaning.specs.Memory.{cell, store, setMarks, setTimer, subscribed, pending, isPending, isSubscribed, expiries, fourPresent, timerSound, sound, fresh}
 use Rattle.meaning.specs.Operation.{Op, capabilities, read, set, subscribe, unsubscribe}
 use Rattle.meaning.specs.Step.{block, commits, permitted, setChecks, stored, setMemory, subscribeMemory, unsubscribeMemory, step, after}
-use Rattle.meaning.specs.Calls.{Outcome, told, call, deed, carriedOut, acknowledged, isCommand, messageChecks, message, opsOf, localPermitted, differs, localMemory, localChecks, localValue, cleared, buildChecks, build, expired, expiryChecks, expiry, makeFresh}
+use Rattle.meaning.specs.Calls.{Outcome, numberOnly, call, effect, carriedOut, acknowledged, isCommand, messageChecks, message, opsOf, localPermitted, differs, localMemory, localChecks, localValue, cleared, buildChecks, build, expired, expiryChecks, expiry, makeFresh}
 use Rattle.meaning.proofs.All.{all}
 use Rattle.meaning.proofs.Lists.{length-part}
 use Rattle.meaning.proofs.Tests.{same-true, and-left, every-at, first-passed}
 use Rattle.meaning.proofs.Places.{listed-place}
-use Rattle.meaning.proofs.Sound.{Sound, opened, entry-of, put-sound, remark-sound, setClock-sound}
-use Rattle.meaning.proofs.Settled.{call-memory, set-either}
+use Rattle.meaning.proofs.Sound.{Sound, opened, entry-of, put-sound, setMarks-sound, setTimer-sound}
+use Rattle.meaning.proofs.Checked.{call-memory, set-either}
 
 pub fresh-sound : sound fresh ≡ true
 unfolding all
@@ -43,9 +43,9 @@ unfolding formAndFit listOk listOf
 block-length b e =
     let long : 22 ≤ length b = leb-true _ _ (every-at _ 0 e) in
     let l : length (part b 14 (length b - 22)) ≡ length b - 22 = length-part b 14 (length b - 22) (omega arith) in
-    let most : number (countOf b) ≤ 64 = leb-true _ _ (every-at _ 2 e) in
+    let most : asNumber (countOf b) ≤ 64 = leb-true _ _ (every-at _ 2 e) in
     let sevens : length (part b 14 (length b - 22)) % 7 ≡ 0 = eqb-true _ _ (and-left _ _ (every-at _ 3 e)) in
-    let count : number (countOf b) ≡ length (part b 14 (length b - 22)) / 7 = eqb-true _ _ (every-at _ 5 e) in
+    let count : asNumber (countOf b) ≡ length (part b 14 (length b - 22)) / 7 = eqb-true _ _ (every-at _ 5 e) in
     let one : 1 ≤ length (part b 14 (length b - 22)) / 7 = leb-true _ _ (every-at _ 6 e) in
     (omega arith, omega arith)
 
@@ -125,19 +125,19 @@ subscribe-sound : (m : List ℕ) (n : ℕ) → sound m ≡ true → sound (subsc
 unfolding subscribeMemory pending
 subscribe-sound m n s = go (listed n) refl
   where
-    go : (b : Bool) → listed n ≡ b → sound (cond b (remark m (place n) true (isPending (cell m (place n)))) m) ≡ true
+    go : (b : Bool) → listed n ≡ b → sound (cond b (setMarks m (place n) true (isPending (cell m (place n)))) m) ≡ true
     go true e =
         let S = opened m s in
         let hk = listed-place n e in
-        remark-sound m (place n) true (isPending (cell m (place n))) S hk (subscribed-marks _ (isSubscribed (cell m (place n))) _ (entry-of m S (place n) hk .marks))
+        setMarks-sound m (place n) true (isPending (cell m (place n))) S hk (subscribed-marks _ (isSubscribed (cell m (place n))) _ (entry-of m S (place n) hk .marks))
     go false e = s
 
 unsubscribe-sound : (m : List ℕ) (n : ℕ) → sound m ≡ true → sound (unsubscribeMemory m n) ≡ true
 unfolding unsubscribeMemory implies
 unsubscribe-sound m n s = go (listed n) refl
   where
-    go : (b : Bool) → listed n ≡ b → sound (cond b (remark m (place n) false false) m) ≡ true
-    go true e = remark-sound m (place n) false false (opened m s) (listed-place n e) refl
+    go : (b : Bool) → listed n ≡ b → sound (cond b (setMarks m (place n) false false) m) ≡ true
+    go true e = setMarks-sound m (place n) false false (opened m s) (listed-place n e) refl
     go false e = s
 
 -- ---- every operation, and every list of them
@@ -158,9 +158,9 @@ after-sound m (o ∷ os) s = after-sound (step m o) os (step-sound m o s)
 -- ---- a message
 
 -- a command leaves the memory after its operations, an acknowledgement the timer idle and all else as it was
-pub deed-either : (P : List ℕ → Type 0) (m s : List ℕ) → P (after m (opsOf s)) → P (setClock m 0 0) → P (deed m s .memory)
-unfolding deed carriedOut acknowledged
-deed-either P m s f g = go (isCommand s)
+pub effect-either : (P : List ℕ → Type 0) (m s : List ℕ) → P (after m (opsOf s)) → P (setTimer m 0 0) → P (effect m s .memory)
+unfolding effect carriedOut acknowledged
+effect-either P m s f g = go (isCommand s)
   where
     go : (b : Bool) → P (cond b (carriedOut m (opsOf s)) (acknowledged m) .memory)
     go true = f
@@ -169,19 +169,19 @@ deed-either P m s f g = go (isCommand s)
 abbrev IsSound : List ℕ → Type 0
 IsSound m = sound m ≡ true
 
-clock-idle : clockSound (0 ∷ 0 ∷ []) ≡ true
-unfolding clockSound
-clock-idle = refl
+timer-idle : timerSound (0 ∷ 0 ∷ []) ≡ true
+unfolding timerSound
+timer-idle = refl
 
-clock-waiting : (n : ℕ) → n ≤ 4 → clockSound (1 ∷ n ∷ []) ≡ true
-unfolding clockSound
-clock-waiting n h = le-leb n 4 h
+timer-waiting : (n : ℕ) → n ≤ 4 → timerSound (1 ∷ n ∷ []) ≡ true
+unfolding timerSound
+timer-waiting n h = le-leb n 4 h
 
 pub message-sound : (m s room : List ℕ) → sound m ≡ true → sound (message m s room .memory) ≡ true
 unfolding message
 message-sound m s room h =
     call-memory IsSound (messageChecks m s (length room)) _ m room h
-    (λ e. deed-either IsSound m s (after-sound m (opsOf s) h) (setClock-sound m 0 0 (opened m h) clock-idle))
+    (λ e. effect-either IsSound m s (after-sound m (opsOf s) h) (setTimer-sound m 0 0 (opened m h) timer-idle))
 
 -- ---- a local value
 
@@ -237,28 +237,28 @@ unfolding cleared implies
 cleared-sound zero m h s = s
 cleared-sound (suc k) m h s =
     let c = cleared k m in
-    remark-sound c k (subscribed c k) false (opened c (cleared-sound k m (omega arith) s)) (omega arith) refl
+    setMarks-sound c k (subscribed c k) false (opened c (cleared-sound k m (omega arith) s)) (omega arith) refl
 
 pub build-sound : (m room : List ℕ) → sound m ≡ true → sound (build m room .memory) ≡ true
 unfolding build
 build-sound m room s =
     call-memory IsSound (buildChecks m (length room)) _ m room s
-    (λ e. setClock-sound (cleared entryCount m) 1 0 (opened (cleared entryCount m) (cleared-sound entryCount m (omega arith) s)) (clock-waiting 0 (omega arith)))
+    (λ e. setTimer-sound (cleared entryCount m) 1 0 (opened (cleared entryCount m) (cleared-sound entryCount m (omega arith) s)) (timer-waiting 0 (omega arith)))
 
 abbrev againOr : List ℕ → Bool → Outcome
-againOr m b = cond b (told 20 (setClock m 1 (expiries m + 1)) []) (told 21 (setClock m 0 0) [])
+againOr m b = cond b (numberOnly 20 (setTimer m 1 (expiries m + 1)) []) (numberOnly 21 (setTimer m 0 0) [])
 
 -- expiries 1 to 4 send again, the fifth gives up
-pub expired-again : (m : List ℕ) → expiries m < 4 → expired m ≡ told 20 (setClock m 1 (expiries m + 1)) []
+pub expired-again : (m : List ℕ) → expiries m < 4 → expired m ≡ numberOnly 20 (setTimer m 1 (expiries m + 1)) []
 unfolding expired
 expired-again m h = ap (againOr m) (lt-ltb (expiries m) 4 h)
 
-pub expired-last : (m : List ℕ) → 4 ≤ expiries m → expired m ≡ told 21 (setClock m 0 0) []
+pub expired-last : (m : List ℕ) → 4 ≤ expiries m → expired m ≡ numberOnly 21 (setTimer m 0 0) []
 unfolding expired
 expired-last m h = ap (againOr m) (le-ltb (expiries m) 4 h)
 
 -- what holds of both holds of an expiry
-pub expired-either : (P : Outcome → Type 0) (m : List ℕ) → (expiries m < 4 → P (told 20 (setClock m 1 (expiries m + 1)) [])) → P (told 21 (setClock m 0 0) [])
+pub expired-either : (P : Outcome → Type 0) (m : List ℕ) → (expiries m < 4 → P (numberOnly 20 (setTimer m 1 (expiries m + 1)) [])) → P (numberOnly 21 (setTimer m 0 0) [])
     → P (expired m)
 expired-either P m f g = go (decLe 4 (expiries m))
   where
@@ -272,10 +272,10 @@ expiry-sound m s =
     call-memory IsSound (expiryChecks m) (expired m) m [] s
     (λ e.
     expired-either (λ o. IsSound (o .memory)) m
-    (λ h. setClock-sound m 1 (expiries m + 1) (opened m s) (clock-waiting (expiries m + 1) (omega arith)))
-    (setClock-sound m 0 0 (opened m s) clock-idle))
+    (λ h. setTimer-sound m 1 (expiries m + 1) (opened m s) (timer-waiting (expiries m + 1) (omega arith)))
+    (setTimer-sound m 0 0 (opened m s) timer-idle))
 
 -- from any memory, of any content
 pub makeFresh-sound : (m : List ℕ) → length m ≡ memoryLength → sound (makeFresh m .memory) ≡ true
-unfolding makeFresh call settle firstFailed
+unfolding makeFresh call whenPassed firstFailed
 makeFresh-sound m h = simp (eq-eqb _ _ h) fresh-sound

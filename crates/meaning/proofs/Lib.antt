@@ -6,7 +6,7 @@ pub mod Places
 pub mod Contents
 pub mod Sound
 pub mod Spelt
-pub mod Settled
+pub mod Checked
 pub mod Kept
 pub mod Marks
 pub mod Sums

@@ -5,6 +5,7 @@ use mathlib.Core.Bool.{true}
 use mathlib.Core.List.{List, [], _∷_}
 use lib.ListN.{length}
 use Rattle.meaning.specs.Octets.{be16, flat, zeros}
+use Rattle.meaning.specs.Wire.{notificationMost}
 use Rattle.meaning.specs.Memory.{sound, fresh}
 use Rattle.meaning.specs.Calls.{notification}
 use Rattle.meaning.proofs.All.{all}
@@ -27,6 +28,6 @@ fullest =
     ∷ takeValue 0x00A4 (zeros 2)
     ∷ []
 
-pub notification-reached : (sound (afterCalls fresh fullest) ≡ true) × (length (notification (afterCalls fresh fullest)) ≡ 559)
+pub notification-reached : (sound (afterCalls fresh fullest) ≡ true) × (length (notification (afterCalls fresh fullest)) ≡ notificationMost)
 unfolding all gives afterCalls fullest names
 notification-reached = (refl, refl)

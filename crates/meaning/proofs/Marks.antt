@@ -12,13 +12,13 @@ use borrow.Author.Tests.{leb-true, eqb-true, not-false}
 use Rattle.meaning.specs.Octets.{same, nonempty, below, implies}
 use Rattle.meaning.specs.Checks.{firstFailed}
 use Rattle.meaning.specs.Table.{rowAt, rows, place, listed, byPort, entryCount}
-use Rattle.meaning.specs.Memory.{cell, size, body, flags, put, store, remark, present, subscribed, pending, sound}
+use Rattle.meaning.specs.Memory.{cell, size, body, flags, put, store, setMarks, present, subscribed, pending, sound}
 use Rattle.meaning.specs.Step.{stored, setChecks, setMemory, subscribeMemory, unsubscribeMemory}
 use Rattle.meaning.specs.Calls.{differs, localMemory}
 use Rattle.meaning.proofs.Tests.{same-true, same-refl, implied, below-at}
 use Rattle.meaning.proofs.Places.{listed-place, cell-put-same, cell-put-other}
-use Rattle.meaning.proofs.Settled.{set-either}
-use Rattle.meaning.proofs.Sound.{Sound, opened, entry-of, subscribed-cellOf, pending-cellOf, cell-remark-same, cell-remark-other}
+use Rattle.meaning.proofs.Checked.{set-either}
+use Rattle.meaning.proofs.Sound.{Sound, opened, entry-of, subscribed-cellOf, pending-cellOf, cell-setMarks-same, cell-setMarks-other}
 use Rattle.meaning.proofs.Kept.{permits-length, permits-most, stored-permitted, settable, Local, local-held}
 use Rattle.meaning.proofs.Commit.{body-permitted}
 
@@ -47,19 +47,19 @@ module _ (m : List ℕ) (k : ℕ) (p s q : Bool) (v : List ℕ) (S : Sound m) (h
       record { subscription = rw e; pendency = rw e }
 
 module _ (m : List ℕ) (k : ℕ) (s q : Bool) (S : Sound m) (hk : k < entryCount) where
-  pub remark-marks : Marked (remark m k s q) k s q
+  pub setMarks-marks : Marked (setMarks m k s q) k s q
   unfolding subscribed pending
-  remark-marks =
-      let e = cell-remark-same m k s q S hk in
+  setMarks-marks =
+      let e = cell-setMarks-same m k s q S hk in
       record {
         subscription = rw e (subscribed-cellOf k (present m k) s q (size (cell m k)));
         pendency = rw e (pending-cellOf k (present m k) s q (size (cell m k)));
       }
 
-  pub remark-marks-other : (j : ℕ) → j ≢ k → SameMarks m (remark m k s q) j
+  pub setMarks-marks-other : (j : ℕ) → j ≢ k → SameMarks m (setMarks m k s q) j
   unfolding subscribed pending
-  remark-marks-other j ne =
-      let e = cell-remark-other m k s q S hk j ne in
+  setMarks-marks-other j ne =
+      let e = cell-setMarks-other m k s q S hk j ne in
       record { subscription = rw e; pendency = rw e }
 
 -- ---- a set never marks anything pending, nor touches a subscription
@@ -87,19 +87,19 @@ set-marks m n v s j hj =
 
 pub subscribe-marks : (m : List ℕ) (n : ℕ) → sound m ≡ true → listed n ≡ true → Marked (subscribeMemory m n) (place n) true (pending m (place n))
 unfolding subscribeMemory
-subscribe-marks m n s e = rw e (remark-marks m (place n) true (pending m (place n)) (opened m s) (listed-place n e))
+subscribe-marks m n s e = rw e (setMarks-marks m (place n) true (pending m (place n)) (opened m s) (listed-place n e))
 
 pub unsubscribe-marks : (m : List ℕ) (n : ℕ) → sound m ≡ true → listed n ≡ true → Marked (unsubscribeMemory m n) (place n) false false
 unfolding unsubscribeMemory
-unsubscribe-marks m n s e = rw e (remark-marks m (place n) false false (opened m s) (listed-place n e))
+unsubscribe-marks m n s e = rw e (setMarks-marks m (place n) false false (opened m s) (listed-place n e))
 
 pub subscribe-others : (m : List ℕ) (n : ℕ) → sound m ≡ true → listed n ≡ true → (j : ℕ) → j ≢ place n → SameMarks m (subscribeMemory m n) j
 unfolding subscribeMemory
-subscribe-others m n s e j ne = rw e (remark-marks-other m (place n) true (pending m (place n)) (opened m s) (listed-place n e) j ne)
+subscribe-others m n s e j ne = rw e (setMarks-marks-other m (place n) true (pending m (place n)) (opened m s) (listed-place n e) j ne)
 
 pub unsubscribe-others : (m : List ℕ) (n : ℕ) → sound m ≡ true → listed n ≡ true → (j : ℕ) → j ≢ place n → SameMarks m (unsubscribeMemory m n) j
 unfolding unsubscribeMemory
-unsubscribe-others m n s e j ne = rw e (remark-marks-other m (place n) false false (opened m s) (listed-place n e) j ne)
+unsubscribe-others m n s e j ne = rw e (setMarks-marks-other m (place n) false false (opened m s) (listed-place n e) j ne)
 
 -- on unlisted names they do nothing
 pub unlisted-nothing : (m : List ℕ) (n : ℕ) → listed n ≡ false → (subscribeMemory m n ≡ m) × (unsubscribeMemory m n ≡ m)

@@ -7,6 +7,7 @@ use mathlib.Core.List.{List, [], _∷_, _++_}
 use lib.ListN.{length, drop, length-append}
 use Rattle.meaning.specs.Octets.{be16, flat, octet, at16}
 use Rattle.meaning.specs.Table.{rowAt, rows, byPort, entryCount}
+use Rattle.meaning.specs.Wire.{notificationMost}
 use Rattle.meaning.specs.Memory.{cell, present, pending, body, isPending, isSubscribed, sound}
 use Rattle.meaning.specs.Step.{Answer, value, readError}
 use Rattle.meaning.specs.Reply.{Held, Failed, held, failed, Records, noRecords, joined, recordOf, gathered, heldOctets, failedOctets}
@@ -92,7 +93,7 @@ reports-weight m (suc k) S h =
     let e : weight (gathered (a ++ b)) ≡ weight (gathered a) + weight (gathered b) = ap weight (gathered-append a b) ∙ weight-joined (gathered a) (gathered b) in
     omega (arith, e, reports-weight m k S (omega arith), one-weight m k S (omega arith))
 
-pub notification-most : (m : List ℕ) → sound m ≡ true → length (notification m) ≤ 559
+pub notification-most : (m : List ℕ) → sound m ≡ true → length (notification m) ≤ notificationMost
 unfolding notification be16 weight
 notification-most m s =
     let r = gathered (reports m entryCount) in

@@ -15,9 +15,9 @@ use Rattle.meaning.specs.Checks.{Checks, passed, check, firstFailed}
 use Rattle.meaning.specs.Table.{entryCount, memoryLength}
 use Rattle.meaning.specs.Memory.{pending, waiting, sound}
 use Rattle.meaning.specs.Operation.{Op, parse, isSome}
-use Rattle.meaning.specs.Calls.{told, isCommand, isAcknowledgement, lengthField, operations, lengthRight, records, carriedOut, acknowledged, deed, fits, messageChecks, message, localPermitted, localChecks, localValue, reports, buildChecks, build, expiryChecks, expiry, makeFresh}
+use Rattle.meaning.specs.Calls.{numberOnly, isCommand, isAcknowledgement, lengthField, operations, lengthRight, records, carriedOut, acknowledged, effect, fits, messageChecks, message, localPermitted, localChecks, localValue, reports, buildChecks, build, expiryChecks, expiry, makeFresh}
 use Rattle.meaning.proofs.Tests.{every-at, first-fails, first-after}
-use Rattle.meaning.proofs.Settled.{call-refused}
+use Rattle.meaning.proofs.Checked.{call-refused}
 use Rattle.meaning.proofs.Records.{Fits, fits-opened}
 use Rattle.meaning.proofs.Accepted.{ops-parsed}
 
@@ -71,19 +71,19 @@ not-fitting n m os no-fit = go (fits n (carriedOut m os)) refl
     go false e = e
 
 module _ (m s room : List ℕ) where
-  first-is : (n : ℕ) → firstFailed (messageChecks m s (length room)) ≡ suc n → message m s room ≡ told (suc n) m room
+  first-is : (n : ℕ) → firstFailed (messageChecks m s (length room)) ≡ suc n → message m s room ≡ numberOnly (suc n) m room
   unfolding message
   first-is n e = call-refused (messageChecks m s (length room)) _ m room n e
 
-  pub message-1 : sound m ≡ false → message m s room ≡ told 1 m room
+  pub message-1 : sound m ≡ false → message m s room ≡ numberOnly 1 m room
   unfolding messageChecks firstFailed
   message-1 e = first-is 0 (simp e)
 
-  pub message-2 : sound m ≡ true → length s ≡ 0 → message m s room ≡ told 2 m room
+  pub message-2 : sound m ≡ true → length s ≡ 0 → message m s room ≡ numberOnly 2 m room
   unfolding messageChecks firstFailed
   message-2 e h = first-is 1 (simp (e, h))
 
-  pub message-3 : sound m ≡ true → 2048 < length s → message m s room ≡ told 3 m room
+  pub message-3 : sound m ≡ true → 2048 < length s → message m s room ≡ numberOnly 3 m room
   unfolding messageChecks firstFailed
   message-3 e h = first-is 2 (simp (e, le-leb 1 (length s) (omega arith), lt-leb (length s) 2048 h))
 
@@ -94,26 +94,26 @@ module _ (m s room : List ℕ) where
       (check 5 (implies (isCommand s) (lengthRight s))
       (check 6 (implies (isCommand s) (isSome (parse (operations s))))
       (check 8 (implies (isAcknowledgement s) (waiting m))
-      (check 7 (fits (length room) (deed m s)) passed))))
+      (check 7 (fits (length room) (effect m s)) passed))))
 
-  rest-is : (n : ℕ) → Taken m s → firstFailed rest ≡ suc n → message m s room ≡ told (suc n) m room
+  rest-is : (n : ℕ) → Taken m s → firstFailed rest ≡ suc n → message m s room ≡ numberOnly (suc n) m room
   unfolding messageChecks firstFailed
   rest-is n t e = first-is n (simp (t .isSound, le-leb 1 (length s) (t .nonzero), le-leb (length s) 2048 (t .short)) e)
 
-  pub message-4 : Taken m s → octet s 0 ≢ 1 → octet s 0 ≢ 4 → message m s room ≡ told 4 m room
+  pub message-4 : Taken m s → octet s 0 ≢ 1 → octet s 0 ≢ 4 → message m s room ≡ numberOnly 4 m room
   unfolding firstFailed isCommand isAcknowledgement
   message-4 t a b = rest-is 3 t (simp (ne-eqb (octet s 0) 1 a, ne-eqb (octet s 0) 4 b))
 
-  pub message-5 : Taken m s → octet s 0 ≡ 1 → WrongLength s → message m s room ≡ told 5 m room
+  pub message-5 : Taken m s → octet s 0 ≡ 1 → WrongLength s → message m s room ≡ numberOnly 5 m room
   unfolding firstFailed isCommand implies
   message-5 t a d = rest-is 4 t (simp (eq-eqb (octet s 0) 1 a, length-wrong s d))
 
-  pub message-6 : Measured m s → parse (operations s) ≡ none → message m s room ≡ told 6 m room
+  pub message-6 : Measured m s → parse (operations s) ≡ none → message m s room ≡ numberOnly 6 m room
   unfolding firstFailed isCommand implies
   message-6 l e = rest-is 5 (l .taken) (simp (eq-eqb (octet s 0) 1 (l .type), length-right m s l, e))
 
-  pub message-7 : (os : List Op) → Measured m s → parse (operations s) ≡ some os → (Fits (length room) (records m os) → ⊥) → message m s room ≡ told 7 m room
-  unfolding firstFailed isCommand isAcknowledgement implies deed
+  pub message-7 : (os : List Op) → Measured m s → parse (operations s) ≡ some os → (Fits (length room) (records m os) → ⊥) → message m s room ≡ numberOnly 7 m room
+  unfolding firstFailed isCommand isAcknowledgement implies effect
   message-7 os l e no-fit =
       rest-is 6 (l .taken)
       (simp (
@@ -124,58 +124,58 @@ module _ (m s room : List ℕ) where
         not-fitting (length room) m os no-fit,
       ))
 
-  pub message-8 : Taken m s → octet s 0 ≡ 4 → waiting m ≡ false → message m s room ≡ told 8 m room
+  pub message-8 : Taken m s → octet s 0 ≡ 4 → waiting m ≡ false → message m s room ≡ numberOnly 8 m room
   unfolding firstFailed isCommand isAcknowledgement implies
   message-8 t a w = rest-is 7 t (simp (a, w))
 
   -- an acknowledgement whose reply has no room
-  pub message-7-acknowledged : Taken m s → octet s 0 ≡ 4 → waiting m ≡ true → length room ≡ 0 → message m s room ≡ told 7 m room
-  unfolding firstFailed isCommand isAcknowledgement implies deed acknowledged fits every
+  pub message-7-acknowledged : Taken m s → octet s 0 ≡ 4 → waiting m ≡ true → length room ≡ 0 → message m s room ≡ numberOnly 7 m room
+  unfolding firstFailed isCommand isAcknowledgement implies effect acknowledged fits every
   message-7-acknowledged t a w h = rest-is 6 t (simp (a, w, h))
 
 -- ---- building: 1, 11, 10, 9
 
 module _ (m room : List ℕ) where
-  build-is : (n : ℕ) → firstFailed (buildChecks m (length room)) ≡ suc n → build m room ≡ told (suc n) m room
+  build-is : (n : ℕ) → firstFailed (buildChecks m (length room)) ≡ suc n → build m room ≡ numberOnly (suc n) m room
   unfolding build
   build-is n e = call-refused (buildChecks m (length room)) _ m room n e
 
-  pub build-1 : sound m ≡ false → build m room ≡ told 1 m room
+  pub build-1 : sound m ≡ false → build m room ≡ numberOnly 1 m room
   unfolding buildChecks firstFailed
   build-1 e = build-is 0 (simp e)
 
-  pub build-11 : sound m ≡ true → length room < 1600 → build m room ≡ told 11 m room
+  pub build-11 : sound m ≡ true → length room < 1600 → build m room ≡ numberOnly 11 m room
   unfolding buildChecks
   build-11 e h =
       let later = check 10 (not (waiting m)) (check 9 (nonempty (reports m entryCount)) passed) in
       build-is 10 (first-after 1 (sound m) _ 11 e (first-fails 11 (leb 1600 (length room)) later (lt-leb 1600 (length room) h)))
 
-  pub build-10 : sound m ≡ true → 1600 ≤ length room → waiting m ≡ true → build m room ≡ told 10 m room
+  pub build-10 : sound m ≡ true → 1600 ≤ length room → waiting m ≡ true → build m room ≡ numberOnly 10 m room
   unfolding buildChecks firstFailed
   build-10 e h w = build-is 9 (simp (e, le-leb 1600 (length room) h, w))
 
-  pub build-9 : sound m ≡ true → 1600 ≤ length room → waiting m ≡ false → ((k : ℕ) → k < entryCount → pending m k ≡ false) → build m room ≡ told 9 m room
+  pub build-9 : sound m ≡ true → 1600 ≤ length room → waiting m ≡ false → ((k : ℕ) → k < entryCount → pending m k ≡ false) → build m room ≡ numberOnly 9 m room
   unfolding buildChecks firstFailed
   build-9 e h w p = build-is 8 (simp (e, le-leb 1600 (length room) h, w, no-reports m entryCount p))
 
 -- ---- a local value: 1, 12. An expiry: 1, 8. Making fresh: 1 by length only
 
-pub localValue-1 : (m : List ℕ) (n : ℕ) (v : List ℕ) → sound m ≡ false → localValue m n v ≡ told 1 m []
+pub localValue-1 : (m : List ℕ) (n : ℕ) (v : List ℕ) → sound m ≡ false → localValue m n v ≡ numberOnly 1 m []
 unfolding localValue localChecks firstFailed
 localValue-1 m n v e = call-refused (localChecks m n v) _ m [] 0 (simp e)
 
-pub localValue-12 : (m : List ℕ) (n : ℕ) (v : List ℕ) → sound m ≡ true → localPermitted n v ≡ false → localValue m n v ≡ told 12 m []
+pub localValue-12 : (m : List ℕ) (n : ℕ) (v : List ℕ) → sound m ≡ true → localPermitted n v ≡ false → localValue m n v ≡ numberOnly 12 m []
 unfolding localValue localChecks firstFailed
 localValue-12 m n v e p = call-refused (localChecks m n v) _ m [] 11 (simp (e, p))
 
-pub expiry-1 : (m : List ℕ) → sound m ≡ false → expiry m ≡ told 1 m []
+pub expiry-1 : (m : List ℕ) → sound m ≡ false → expiry m ≡ numberOnly 1 m []
 unfolding expiry expiryChecks firstFailed
 expiry-1 m e = call-refused (expiryChecks m) _ m [] 0 (simp e)
 
-pub expiry-8 : (m : List ℕ) → sound m ≡ true → waiting m ≡ false → expiry m ≡ told 8 m []
+pub expiry-8 : (m : List ℕ) → sound m ≡ true → waiting m ≡ false → expiry m ≡ numberOnly 8 m []
 unfolding expiry expiryChecks firstFailed
 expiry-8 m e w = call-refused (expiryChecks m) _ m [] 7 (simp (e, w))
 
-pub makeFresh-1 : (m : List ℕ) → length m ≢ memoryLength → makeFresh m ≡ told 1 m []
+pub makeFresh-1 : (m : List ℕ) → length m ≢ memoryLength → makeFresh m ≡ numberOnly 1 m []
 unfolding makeFresh firstFailed
 makeFresh-1 m h = call-refused _ _ m [] 0 (simp (ne-eqb _ _ h))

@@ -10,8 +10,8 @@ use lib.ListN.{length, length-append, length-replicate}
 use lib.Dec.{eqb, leb, ltb}
 use borrow.Author.Tests.{leb-true, ltb-true, eqb-true}
 use Rattle.meaning.specs.Octets.{part, splice, be16, below}
-use Rattle.meaning.specs.Table.{rowAt, rows, rooms, roomAt, entryCount, memoryLength, bodiesAt, clockAt, place, placeIn, listed, gateEnabled, adminBaseTime, adminControlListLength, adminControlList, adminCycleTime, supportedListMax, commit}
-use Rattle.meaning.specs.Memory.{cellAt, cell, room, clock, cellOf, roomOf, putCell, putRoom, put, setClock}
+use Rattle.meaning.specs.Table.{rowAt, rows, rooms, roomAt, entryCount, memoryLength, bodiesAt, timerAt, place, placeIn, listed, gateEnabled, adminBaseTime, adminControlListLength, adminControlList, adminCycleTime, supportedListMax, commit}
+use Rattle.meaning.specs.Memory.{cellAt, cell, room, timer, cellOf, roomOf, putCell, putRoom, put, setTimer}
 use Rattle.meaning.proofs.Lists.{splice-length, splice-same, splice-before, splice-after}
 use Rattle.meaning.proofs.Tests.{and-left, and-right, or-cases, below-at}
 
@@ -119,9 +119,9 @@ module _ (m : List ℕ) (k f n : ℕ) (hm : length m ≡ memoryLength) (hk : k <
       splice-after m (cellAt k) (cellOf k f n) fits-cell (roomAt j) (rowAt j .most)
       (simp length-cellOf (omega (arith, room-start j hj)))
 
-  pub clock-putCell : clock (putCell m k f n) ≡ clock m
-  unfolding clock putCell
-  clock-putCell = splice-after m (cellAt k) (cellOf k f n) fits-cell clockAt 2 (simp length-cellOf (omega arith))
+  pub timer-putCell : timer (putCell m k f n) ≡ timer m
+  unfolding timer putCell
+  timer-putCell = splice-after m (cellAt k) (cellOf k f n) fits-cell timerAt 2 (simp length-cellOf (omega arith))
 
 -- ---- a room is put
 
@@ -147,7 +147,7 @@ module _ (m : List ℕ) (k : ℕ) (v : List ℕ) (hm : length m ≡ memoryLength
       go (inl h) = splice-before m (roomAt k) (roomOf k v) fits-room (roomAt j) (rowAt j .most) h
       go (inr h) = splice-after m (roomAt k) (roomOf k v) fits-room (roomAt j) (rowAt j .most) (rw (length-roomOf k v hv) h)
 
-  -- cells and clock stand before the rooms
+  -- cells and timer stand before the rooms
   part-putRoom : (i n : ℕ) → i + n ≤ bodiesAt → part (putRoom m k v) i n ≡ part m i n
   unfolding putRoom
   part-putRoom i n h = splice-before m (roomAt k) (roomOf k v) fits-room i n (omega (arith, room-start k hk))
@@ -156,9 +156,9 @@ module _ (m : List ℕ) (k : ℕ) (v : List ℕ) (hm : length m ≡ memoryLength
   unfolding cell
   cell-putRoom j hj = part-putRoom (cellAt j) 6 (omega arith)
 
-  clock-putRoom : clock (putRoom m k v) ≡ clock m
-  unfolding clock
-  clock-putRoom = part-putRoom clockAt 2 (omega arith)
+  timer-putRoom : timer (putRoom m k v) ≡ timer m
+  unfolding timer
+  timer-putRoom = part-putRoom timerAt 2 (omega arith)
 
 -- ---- an entry is put: its cell, then its room
 
@@ -188,34 +188,34 @@ module _ (m : List ℕ) (k f : ℕ) (v : List ℕ) (hm : length m ≡ memoryLeng
   room-put-other j hj ne =
       room-putRoom-other (putCell m k f (length v)) k v half hk hv j hj ne ∙ room-putCell m k f (length v) hm hk j hj
 
-  pub clock-put : clock (put m k f v) ≡ clock m
+  pub timer-put : timer (put m k f v) ≡ timer m
   unfolding put
-  clock-put = clock-putRoom (putCell m k f (length v)) k v half hk hv ∙ clock-putCell m k f (length v) hm hk
+  timer-put = timer-putRoom (putCell m k f (length v)) k v half hk hv ∙ timer-putCell m k f (length v) hm hk
 
--- ---- the clock is put
+-- ---- the timer is put
 
 module _ (m : List ℕ) (w n : ℕ) (hm : length m ≡ memoryLength) where
-  fits-clock : clockAt + 2 ≤ length m
-  fits-clock = rw hm (omega arith)
+  fits-timer : timerAt + 2 ≤ length m
+  fits-timer = rw hm (omega arith)
 
-  pub setClock-length : length (setClock m w n) ≡ memoryLength
-  unfolding setClock
-  setClock-length = splice-length m clockAt (w ∷ n ∷ []) fits-clock ∙ hm
+  pub setTimer-length : length (setTimer m w n) ≡ memoryLength
+  unfolding setTimer
+  setTimer-length = splice-length m timerAt (w ∷ n ∷ []) fits-timer ∙ hm
 
-  pub clock-setClock : clock (setClock m w n) ≡ w ∷ n ∷ []
-  unfolding clock setClock
-  clock-setClock = splice-same m clockAt (w ∷ n ∷ []) fits-clock
+  pub timer-setTimer : timer (setTimer m w n) ≡ w ∷ n ∷ []
+  unfolding timer setTimer
+  timer-setTimer = splice-same m timerAt (w ∷ n ∷ []) fits-timer
 
-  pub cell-setClock : (j : ℕ) → j < entryCount → cell (setClock m w n) j ≡ cell m j
-  unfolding cell setClock
-  cell-setClock j hj = splice-before m clockAt (w ∷ n ∷ []) fits-clock (cellAt j) 6 (omega arith)
+  pub cell-setTimer : (j : ℕ) → j < entryCount → cell (setTimer m w n) j ≡ cell m j
+  unfolding cell setTimer
+  cell-setTimer j hj = splice-before m timerAt (w ∷ n ∷ []) fits-timer (cellAt j) 6 (omega arith)
 
-  pub room-setClock : (j : ℕ) → j < entryCount → room (setClock m w n) j ≡ room m j
-  unfolding room setClock
-  room-setClock j hj = splice-after m clockAt (w ∷ n ∷ []) fits-clock (roomAt j) (rowAt j .most) (room-start j hj)
+  pub room-setTimer : (j : ℕ) → j < entryCount → room (setTimer m w n) j ≡ room m j
+  unfolding room setTimer
+  room-setTimer j hj = splice-after m timerAt (w ∷ n ∷ []) fits-timer (roomAt j) (rowAt j .most) (room-start j hj)
 
-  -- no part that lies apart from the clock changes
-  pub part-setClock : (i l : ℕ) → (i + l ≤ clockAt) ⊎ (clockAt + 2 ≤ i) → part (setClock m w n) i l ≡ part m i l
-  unfolding setClock
-  part-setClock i l (inl h) = splice-before m clockAt (w ∷ n ∷ []) fits-clock i l h
-  part-setClock i l (inr h) = splice-after m clockAt (w ∷ n ∷ []) fits-clock i l h
+  -- no part that lies apart from the timer changes
+  pub part-setTimer : (i l : ℕ) → (i + l ≤ timerAt) ⊎ (timerAt + 2 ≤ i) → part (setTimer m w n) i l ≡ part m i l
+  unfolding setTimer
+  part-setTimer i l (inl h) = splice-before m timerAt (w ∷ n ∷ []) fits-timer i l h
+  part-setTimer i l (inr h) = splice-after m timerAt (w ∷ n ∷ []) fits-timer i l h

@@ -12,13 +12,13 @@ use lib.Dec.{eqb}
 use borrow.Author.Tests.{leb-true}
 use Rattle.meaning.specs.Octets.{octet}
 use Rattle.meaning.specs.Checks.{Checks, passed, check, firstFailed}
-use Rattle.meaning.specs.Table.{entryCount, clockAt, memoryLength}
-use Rattle.meaning.specs.Memory.{setClock, expiries, sound, fresh}
-use Rattle.meaning.specs.Calls.{Outcome, done, told, call, deed, fits, messageChecks, message, localChecks, localValue, notification, cleared, buildChecks, build, expired, expiryChecks, expiry, makeFresh}
+use Rattle.meaning.specs.Table.{entryCount, timerAt, memoryLength}
+use Rattle.meaning.specs.Memory.{setTimer, expiries, sound, fresh}
+use Rattle.meaning.specs.Calls.{Outcome, done, numberOnly, call, effect, fits, messageChecks, message, localChecks, localValue, notification, cleared, buildChecks, build, expired, expiryChecks, expiry, makeFresh}
 use Rattle.meaning.proofs.Lists.{octet-part}
 use Rattle.meaning.proofs.Tests.{every-at, first-passed}
-use Rattle.meaning.proofs.Places.{setClock-length, part-setClock}
-use Rattle.meaning.proofs.Settled.{call-either}
+use Rattle.meaning.proofs.Places.{setTimer-length, part-setTimer}
+use Rattle.meaning.proofs.Checked.{call-either}
 use Rattle.meaning.proofs.Sound.{opened}
 use Rattle.meaning.proofs.Kept.{expired-either}
 use Rattle.meaning.proofs.Accepted.{message-passed, done-room}
@@ -58,7 +58,7 @@ pub message-number : (m s room : List ℕ) → message m s room .number ≤ 8
 unfolding message messageChecks
 message-number m s room =
     let cs = messageChecks m s (length room) in
-    let o = done (deed m s .reply) (deed m s .memory) room in
+    let o = done (effect m s .reply) (effect m s .memory) room in
     among-most 8 (call cs o m room .number) cs (omega arith) (call-among cs o m room refl)
 
 pub localValue-number : (m : List ℕ) (n : ℕ) (v : List ℕ)
@@ -77,7 +77,7 @@ pub makeFresh-number : (m : List ℕ)
     → let n = makeFresh m .number in
     (n ≡ 1) ⊎ (n ≡ 0)
 unfolding makeFresh
-makeFresh-number m = call-among (check 1 (eqb (length m) memoryLength) passed) (told 0 fresh []) m [] refl
+makeFresh-number m = call-among (check 1 (eqb (length m) memoryLength) passed) (numberOnly 0 fresh []) m [] refl
 
 -- 20 and 21 are an expiry's alone, and it has no 0
 abbrev pub OfExpiry : Outcome → Type 0
@@ -90,7 +90,7 @@ expiry-number m =
     (λ e. inr (inr (expired-either (λ o. (o .number ≡ 20) ⊎ (o .number ≡ 21)) m (λ h. inl refl) (inr refl))))
     (λ f e. refused f (rw (sym e) (first-among (expiryChecks m))))
   where
-    refused : (f : ℕ) → Among (suc f) (expiryChecks m) → OfExpiry (told (suc f) m [])
+    refused : (f : ℕ) → Among (suc f) (expiryChecks m) → OfExpiry (numberOnly (suc f) m [])
     refused f (inl e) = inl e
     refused f (inr (inl e)) = inr (inl e)
     refused f (inr (inr e)) = absurd (omega arith)
@@ -140,32 +140,32 @@ expiry-refused m a b =
 -- ---- 20 and 21
 
 -- nothing written, and only octets 114 and 115 may differ
-pub record OnlyClock (o : Outcome) (m : List ℕ) : Type 0 where
+pub record OnlyTimer (o : Outcome) (m : List ℕ) : Type 0 where
   pub written : o .written ≡ []
   pub long : length (o .memory) ≡ length m
   pub others : (i : ℕ) → i ≢ 114 → i ≢ 115 → octet (o .memory) i ≡ octet m i
 
-clock-others : (m : List ℕ) (w n : ℕ) → length m ≡ memoryLength → (i : ℕ) → i ≢ 114 → i ≢ 115 → octet (setClock m w n) i ≡ octet m i
-clock-others m w n hm i a b =
-    sym (octet-part (setClock m w n) i) ∙ ap (λ (s : List ℕ). octet s 0) (part-setClock m w n hm i 1 (apart (decLe 116 i))) ∙ octet-part m i
+timer-others : (m : List ℕ) (w n : ℕ) → length m ≡ memoryLength → (i : ℕ) → i ≢ 114 → i ≢ 115 → octet (setTimer m w n) i ≡ octet m i
+timer-others m w n hm i a b =
+    sym (octet-part (setTimer m w n) i) ∙ ap (λ (s : List ℕ). octet s 0) (part-setTimer m w n hm i 1 (apart (decLe 116 i))) ∙ octet-part m i
   where
-    apart : Dec (116 ≤ i) → (i + 1 ≤ clockAt) ⊎ (clockAt + 2 ≤ i)
+    apart : Dec (116 ≤ i) → (i + 1 ≤ timerAt) ⊎ (timerAt + 2 ≤ i)
     apart (yes h) = inr h
     apart (no h) = inl (omega arith)
 
-pub expiry-clock : (m : List ℕ) → 12 < expiry m .number → OnlyClock (expiry m) m
+pub expiry-timer : (m : List ℕ) → 12 < expiry m .number → OnlyTimer (expiry m) m
 unfolding expiry expiryChecks
-expiry-clock m =
-    call-either (λ o. 12 < o .number → OnlyClock o m) (expiryChecks m) (expired m) m []
+expiry-timer m =
+    call-either (λ o. 12 < o .number → OnlyTimer o m) (expiryChecks m) (expired m) m []
     (λ e h.
     let s = first-passed 0 _ _ e .0 in
-    expired-either (λ o. OnlyClock o m) m (λ _. set s 20 1 (expiries m + 1)) (set s 21 0 0))
+    expired-either (λ o. OnlyTimer o m) m (λ _. set s 20 1 (expiries m + 1)) (set s 21 0 0))
     (λ f e h. absurd (omega (arith, e, first-most 8 (expiryChecks m) (omega arith))))
   where
-    set : sound m ≡ true → (k w n : ℕ) → OnlyClock (told k (setClock m w n) []) m
+    set : sound m ≡ true → (k w n : ℕ) → OnlyTimer (numberOnly k (setTimer m w n) []) m
     set s k w n =
         let hm = opened m s .long in
-        record { written = refl; long = setClock-length m w n hm ∙ sym hm; others = clock-others m w n hm }
+        record { written = refl; long = setTimer-length m w n hm ∙ sym hm; others = timer-others m w n hm }
 
 -- ---- the room
 
@@ -184,13 +184,13 @@ call-room cs w m′ m room h =
 pub message-room : (m s room : List ℕ) → RoomAfter (message m s room) room
 unfolding message fits
 message-room m s room =
-    call-room (messageChecks m s (length room)) (deed m s .reply) (deed m s .memory) m room
+    call-room (messageChecks m s (length room)) (effect m s .reply) (effect m s .memory) m room
     (λ e. leb-true _ _ (every-at _ 0 (message-passed m s (length room) e .fit)))
 
 pub build-room : (m room : List ℕ) → RoomAfter (build m room) room
 unfolding build buildChecks
 build-room m room =
-    call-room (buildChecks m (length room)) (notification m) (setClock (cleared entryCount m) 1 0) m room
+    call-room (buildChecks m (length room)) (notification m) (setTimer (cleared entryCount m) 1 0) m room
     (λ e.
     let e1 = first-passed 0 _ _ e in
     let e11 = first-passed 10 _ _ (e1 .1) in
@@ -198,20 +198,20 @@ build-room m room =
 
 -- a call that is lent no room writes nothing
 
-told-room : (n : ℕ) (m : List ℕ) → RoomAfter (told n m []) []
-told-room n m = record { inRoom = omega arith; long = refl; after = refl }
+number-room : (n : ℕ) (m : List ℕ) → RoomAfter (numberOnly n m []) []
+number-room n m = record { inRoom = omega arith; long = refl; after = refl }
 
 call-no-room : (cs : Checks) (o : Outcome) (m : List ℕ) → RoomAfter o [] → RoomAfter (call cs o m []) []
-call-no-room cs o m h = call-either (λ r. RoomAfter r []) cs o m [] (λ e. h) (λ f e. told-room (suc f) m)
+call-no-room cs o m h = call-either (λ r. RoomAfter r []) cs o m [] (λ e. h) (λ f e. number-room (suc f) m)
 
 pub localValue-room : (m : List ℕ) (n : ℕ) (v : List ℕ) → RoomAfter (localValue m n v) []
 unfolding localValue
-localValue-room m n v = call-no-room _ _ m (told-room 0 _)
+localValue-room m n v = call-no-room _ _ m (number-room 0 _)
 
 pub expiry-room : (m : List ℕ) → RoomAfter (expiry m) []
 unfolding expiry
-expiry-room m = call-no-room _ _ m (expired-either (λ o. RoomAfter o []) m (λ h. told-room 20 _) (told-room 21 _))
+expiry-room m = call-no-room _ _ m (expired-either (λ o. RoomAfter o []) m (λ h. number-room 20 _) (number-room 21 _))
 
 pub makeFresh-room : (m : List ℕ) → RoomAfter (makeFresh m) []
 unfolding makeFresh
-makeFresh-room m = call-no-room _ _ m (told-room 0 _)
+makeFresh-room m = call-no-room _ _ m (number-room 0 _)

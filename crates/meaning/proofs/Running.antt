@@ -11,18 +11,18 @@ use lib.ListN.{length, getD}
 use lib.Dec.{eqb}
 use borrow.Author.Tests.{eqb-true, eq-eqb}
 use Rattle.meaning.specs.Octets.{nonempty}
-use Rattle.meaning.specs.Checks.{firstFailed, settle}
+use Rattle.meaning.specs.Checks.{firstFailed, whenPassed}
 use Rattle.meaning.specs.Table.{Row, nobody, row, rowAt, rows, placeIn, place, listed, byController, byPort, free, entryCount, commit}
 use Rattle.meaning.specs.Block.{permits}
-use Rattle.meaning.specs.Memory.{present, subscribed, pending, body, store, remark, setClock, sound, expiries}
+use Rattle.meaning.specs.Memory.{present, subscribed, pending, body, store, setMarks, setTimer, sound, expiries}
 use Rattle.meaning.specs.Operation.{Op, capabilities, read, set, subscribe, unsubscribe}
 use Rattle.meaning.specs.Step.{block, commits, permitted, setChecks, stored, setMemory, setAnswer, subscribeMemory, unsubscribeMemory, step, answer, update, after}
 use Rattle.meaning.specs.Calls.{opsOf, messageChecks, message, differs, localMemory, localChecks, localValue, cleared, buildChecks, build, expired, expiryChecks, expiry}
 use Rattle.meaning.proofs.Tests.{first-passed, all-passing}
 use Rattle.meaning.proofs.Places.{listed-place}
-use Rattle.meaning.proofs.Settled.{call-memory, set-stores, set-either}
-use Rattle.meaning.proofs.Sound.{Sound, opened, put-present-same, put-present-other, put-body-same, put-body-other, present-remark, body-remark, present-setClock, body-setClock}
-use Rattle.meaning.proofs.Kept.{permits-most, stored-permitted, Settable, settable, step-sound, cleared-sound, deed-either, Local, local-opened, local-held, commit-not-port, expired-either}
+use Rattle.meaning.proofs.Checked.{call-memory, set-stores, set-either}
+use Rattle.meaning.proofs.Sound.{Sound, opened, put-present-same, put-present-other, put-body-same, put-body-other, present-setMarks, body-setMarks, present-setTimer, body-setTimer}
+use Rattle.meaning.proofs.Kept.{permits-most, stored-permitted, Settable, settable, step-sound, cleared-sound, effect-either, Local, local-opened, local-held, commit-not-port, expired-either}
 use Rattle.meaning.proofs.Commit.{Commits, commits-spelt, spelt-commits}
 
 -- ---- the statement
@@ -96,13 +96,13 @@ store-runs m v S hv =
       block = put-body-same m commit true (subscribed m commit) (pending m commit) v S (omega arith) hv;
     }
 
-remark-same : (m : List ℕ) (k : ℕ) (s q : Bool) → Sound m → k < entryCount → SameRunning m (remark m k s q)
-remark-same m k s q S hk =
-    record { runs = present-remark m k s q S hk commit (omega arith); block = body-remark m k s q S hk commit (omega arith) }
+setMarks-same : (m : List ℕ) (k : ℕ) (s q : Bool) → Sound m → k < entryCount → SameRunning m (setMarks m k s q)
+setMarks-same m k s q S hk =
+    record { runs = present-setMarks m k s q S hk commit (omega arith); block = body-setMarks m k s q S hk commit (omega arith) }
 
-clock-same : (m : List ℕ) (w n : ℕ) → Sound m → SameRunning m (setClock m w n)
-clock-same m w n S =
-    record { runs = present-setClock m w n S commit (omega arith); block = body-setClock m w n S commit (omega arith) }
+timer-same : (m : List ℕ) (w n : ℕ) → Sound m → SameRunning m (setTimer m w n)
+timer-same m w n S =
+    record { runs = present-setTimer m w n S commit (omega arith); block = body-setTimer m w n S commit (omega arith) }
 
 marks-same : (m : List ℕ) (n : ℕ) (m′ : List ℕ) → (listed n ≡ true → SameRunning m m′) → SameRunning m (cond (listed n) m′ m)
 marks-same m n m′ f = go (listed n) refl
@@ -149,9 +149,9 @@ step-running m (set n v) s = go (set-running m n v (opened m s))
     go (inl k) = inl k
     go (inr k) = inr (v, ap (λ (i : ℕ). set i v) (k .0), k .1, k .2)
 step-running m (subscribe n) s =
-    inl (marks-same m n _ (λ e. remark-same m (place n) true (pending m (place n)) (opened m s) (listed-place n e)))
+    inl (marks-same m n _ (λ e. setMarks-same m (place n) true (pending m (place n)) (opened m s) (listed-place n e)))
 step-running m (unsubscribe n) s =
-    inl (marks-same m n _ (λ e. remark-same m (place n) false false (opened m s) (listed-place n e)))
+    inl (marks-same m n _ (λ e. setMarks-same m (place n) false false (opened m s) (listed-place n e)))
 
 -- a set of 8001 that meets every condition is carried out
 commit-passes : (m v : List ℕ) → Sound m → Commits m v → firstFailed (setChecks m 0x8001 v) ≡ 0
@@ -167,7 +167,7 @@ commit-runs m v s c =
     rw (set-stores m 0x8001 v (commit-passes m v S c), commit-listed .0) (store-runs m (block m) S (permits-most (rowAt commit) (block m) h))
 
 pub commit-answered : (m v : List ℕ) → sound m ≡ true → Commits m v → answer m (set 0x8001 v) ≡ update 0x8001 v
-unfolding answer setAnswer settle
+unfolding answer setAnswer whenPassed
 commit-answered m v s c = rw (commit-passes m v (opened m s) c)
 
 -- ---- a list of operations
@@ -196,7 +196,7 @@ unfolding message
 message-running m s room h =
     let P : List ℕ → Type 0 = λ m′. SameRunning m m′ ⊎ ((m′ ≡ after m (opsOf s)) × RunningBy m (opsOf s)) in
     call-memory P (messageChecks m s (length room)) _ m room (inl (same-running m))
-    (λ e. deed-either P m s (inr (refl, running-after m (opsOf s) h)) (inl (clock-same m 0 0 (opened m h))))
+    (λ e. effect-either P m s (inr (refl, running-after m (opsOf s) h)) (inl (timer-same m 0 0 (opened m h))))
 
 local-same : (m : List ℕ) (n : ℕ) (v : List ℕ) → Sound m → Local n v → SameRunning m (localMemory m (place n) v)
 unfolding localMemory
@@ -222,17 +222,17 @@ unfolding cleared
 cleared-same zero m h s = same-running m
 cleared-same (suc k) m h s =
     let c = cleared k m in
-    same-then (cleared-same k m (omega arith) s) (remark-same c k (subscribed c k) false (opened c (cleared-sound k m (omega arith) s)) (omega arith))
+    same-then (cleared-same k m (omega arith) s) (setMarks-same c k (subscribed c k) false (opened c (cleared-sound k m (omega arith) s)) (omega arith))
 
 pub build-running : (m room : List ℕ) → sound m ≡ true → SameRunning m (build m room .memory)
 unfolding build
 build-running m room s =
     let c = cleared entryCount m in
     call-memory (SameRunning m) (buildChecks m (length room)) _ m room (same-running m)
-    (λ e. same-then (cleared-same entryCount m (omega arith) s) (clock-same c 1 0 (opened c (cleared-sound entryCount m (omega arith) s))))
+    (λ e. same-then (cleared-same entryCount m (omega arith) s) (timer-same c 1 0 (opened c (cleared-sound entryCount m (omega arith) s))))
 
 pub expiry-running : (m : List ℕ) → sound m ≡ true → SameRunning m (expiry m .memory)
 unfolding expiry
 expiry-running m s =
     call-memory (SameRunning m) (expiryChecks m) (expired m) m [] (same-running m)
-    (λ e. expired-either (λ o. SameRunning m (o .memory)) m (λ h. clock-same m 1 (expiries m + 1) (opened m s)) (clock-same m 0 0 (opened m s)))
+    (λ e. expired-either (λ o. SameRunning m (o .memory)) m (λ h. timer-same m 1 (expiries m + 1) (opened m s)) (timer-same m 0 0 (opened m s)))

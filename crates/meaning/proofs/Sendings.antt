@@ -10,19 +10,19 @@ use lib.ListN.{length}
 use lib.Dec.{eqb}
 use Rattle.meaning.specs.Octets.{nonempty, zeros}
 use Rattle.meaning.specs.Table.{rowAt, place, listed}
-use Rattle.meaning.specs.Memory.{clock, waiting, expiries, cell, size, present, subscribed, pending, flags, store, remark, sound, fresh}
+use Rattle.meaning.specs.Memory.{timer, waiting, expiries, cell, size, present, subscribed, pending, flags, store, setMarks, sound, fresh}
 use Rattle.meaning.specs.Operation.{Op, capabilities, read, set, subscribe, unsubscribe}
 use Rattle.meaning.specs.Step.{stored, setMemory, subscribeMemory, unsubscribeMemory, step, after}
-use Rattle.meaning.specs.Calls.{Outcome, told, call, isCommand, isAcknowledgement, carriedOut, opsOf, messageChecks, message, differs, localMemory, localChecks, localValue, buildChecks, build, expiry, makeFresh}
+use Rattle.meaning.specs.Calls.{Outcome, numberOnly, call, isCommand, isAcknowledgement, carriedOut, opsOf, messageChecks, message, differs, localMemory, localChecks, localValue, buildChecks, build, expiry, makeFresh}
 use Rattle.meaning.proofs.All.{all}
 use Rattle.meaning.proofs.Tests.{and-left, and-right, denied, first-passed}
-use Rattle.meaning.proofs.Places.{listed-place, clock-putCell, clock-put}
-use Rattle.meaning.proofs.Settled.{call-done, call-memory, call-passed, set-either}
+use Rattle.meaning.proofs.Places.{listed-place, timer-putCell, timer-put}
+use Rattle.meaning.proofs.Checked.{call-done, call-memory, call-passed, set-either}
 use Rattle.meaning.proofs.Sound.{opened}
 use Rattle.meaning.proofs.Kept.{permits-most, stored-permitted, settable, step-sound, Local, local-opened, local-held, message-sound, localValue-sound, build-sound, expiry-sound}
-use Rattle.meaning.proofs.Accepted.{message-passed, deed-command}
+use Rattle.meaning.proofs.Accepted.{message-passed, effect-command}
 use Rattle.meaning.proofs.Numbers.{build-10, build-11}
-use Rattle.meaning.proofs.Timer.{Clock, expiry-again, expiry-given-up, again-clock, given-up-clock, build-leaves}
+use Rattle.meaning.proofs.Timer.{Timer, expiry-again, expiry-given-up, again-timer, given-up-timer, build-leaves}
 
 -- ---- the statement
 
@@ -99,70 +99,70 @@ EachMeanwhile m (c ∷ cs) = Meanwhile c (gives m c .number) × EachMeanwhile (g
 -- sound memory in which a notification waits, after n expiries
 pub record Waits (m : List ℕ) (n : ℕ) : Type 0 where
   pub isSound : sound m ≡ true
-  pub clock : Clock m true n
+  pub timer : Timer m true n
 
 -- ---- the timer's octets are left alone by every operation and every local value
 
-set-clock : (m : List ℕ) (n : ℕ) (v : List ℕ) → sound m ≡ true → clock (setMemory m n v) ≡ clock m
+set-timer : (m : List ℕ) (n : ℕ) (v : List ℕ) → sound m ≡ true → timer (setMemory m n v) ≡ timer m
 unfolding store
-set-clock m n v s =
-    set-either m n v (λ m′. clock m′ ≡ clock m)
+set-timer m n v s =
+    set-either m n v (λ m′. timer m′ ≡ timer m)
     (λ e.
     let t = settable m n v e in
     let k = place n in
     let w = stored m k v in
-    clock-put m k (flags true (subscribed m k) (pending m k)) w (opened m s .long) (listed-place n (t .isListed))
+    timer-put m k (flags true (subscribed m k) (pending m k)) w (opened m s .long) (listed-place n (t .isListed))
     (permits-most (rowAt k) w (stored-permitted m k v (t .allowed) .0)))
     refl
 
-remark-clock : (m : List ℕ) (n : ℕ) (s q : Bool) → sound m ≡ true → clock (cond (listed n) (remark m (place n) s q) m) ≡ clock m
-unfolding remark
-remark-clock m n s q h = go (listed n) refl
+setMarks-timer : (m : List ℕ) (n : ℕ) (s q : Bool) → sound m ≡ true → timer (cond (listed n) (setMarks m (place n) s q) m) ≡ timer m
+unfolding setMarks
+setMarks-timer m n s q h = go (listed n) refl
   where
-    go : (b : Bool) → listed n ≡ b → clock (cond b (remark m (place n) s q) m) ≡ clock m
-    go true e = clock-putCell m (place n) (flags (present m (place n)) s q) (size (cell m (place n))) (opened m h .long) (listed-place n e)
+    go : (b : Bool) → listed n ≡ b → timer (cond b (setMarks m (place n) s q) m) ≡ timer m
+    go true e = timer-putCell m (place n) (flags (present m (place n)) s q) (size (cell m (place n))) (opened m h .long) (listed-place n e)
     go false e = refl
 
-pub step-clock : (m : List ℕ) (o : Op) → sound m ≡ true → clock (step m o) ≡ clock m
+pub step-timer : (m : List ℕ) (o : Op) → sound m ≡ true → timer (step m o) ≡ timer m
 unfolding step subscribeMemory unsubscribeMemory
-step-clock m capabilities s = refl
-step-clock m (read n) s = refl
-step-clock m (set n v) s = set-clock m n v s
-step-clock m (subscribe n) s = remark-clock m n true (pending m (place n)) s
-step-clock m (unsubscribe n) s = remark-clock m n false false s
+step-timer m capabilities s = refl
+step-timer m (read n) s = refl
+step-timer m (set n v) s = set-timer m n v s
+step-timer m (subscribe n) s = setMarks-timer m n true (pending m (place n)) s
+step-timer m (unsubscribe n) s = setMarks-timer m n false false s
 
-pub after-clock : (m : List ℕ) (os : List Op) → sound m ≡ true → clock (after m os) ≡ clock m
+pub after-timer : (m : List ℕ) (os : List Op) → sound m ≡ true → timer (after m os) ≡ timer m
 unfolding after
-after-clock m [] s = refl
-after-clock m (o ∷ os) s = after-clock (step m o) os (step-sound m o s) ∙ step-clock m o s
+after-timer m [] s = refl
+after-timer m (o ∷ os) s = after-timer (step m o) os (step-sound m o s) ∙ step-timer m o s
 
-abbrev SameClock : List ℕ → List ℕ → Type 0
-SameClock m m′ = clock m′ ≡ clock m
+abbrev SameTimer : List ℕ → List ℕ → Type 0
+SameTimer m m′ = timer m′ ≡ timer m
 
 -- so by every message that is not of type 04
-pub message-clock : (m s room : List ℕ) → sound m ≡ true → isAcknowledgement s ≡ false → clock (message m s room .memory) ≡ clock m
+pub message-timer : (m s room : List ℕ) → sound m ≡ true → isAcknowledgement s ≡ false → timer (message m s room .memory) ≡ timer m
 unfolding message carriedOut
-message-clock m s room h a =
-    call-memory (SameClock m) (messageChecks m s (length room)) _ m room refl
-    (λ e. rw (deed-command m s (command (isCommand s) (message-passed m s (length room) e .known))) (after-clock m (opsOf s) h))
+message-timer m s room h a =
+    call-memory (SameTimer m) (messageChecks m s (length room)) _ m room refl
+    (λ e. rw (effect-command m s (command (isCommand s) (message-passed m s (length room) e .known))) (after-timer m (opsOf s) h))
   where
     command : (b : Bool) → (b || isAcknowledgement s) ≡ true → b ≡ true
     command true e = refl
     command false e = absurd (false≢true (sym a ∙ e))
 
-local-clock : (m : List ℕ) (n : ℕ) (v : List ℕ) → sound m ≡ true → Local n v → clock (localMemory m (place n) v) ≡ clock m
+local-timer : (m : List ℕ) (n : ℕ) (v : List ℕ) → sound m ≡ true → Local n v → timer (localMemory m (place n) v) ≡ timer m
 unfolding localMemory
-local-clock m n v s l =
+local-timer m n v s l =
     let k = place n in
-    clock-put m k (flags (nonempty v) (subscribed m k) (pending m k || (subscribed m k && differs m k v))) v (opened m s .long)
+    timer-put m k (flags (nonempty v) (subscribed m k) (pending m k || (subscribed m k && differs m k v))) v (opened m s .long)
     (listed-place n (l .isListed))
     (local-held (rowAt k) v (l .allowed) .1)
 
-pub localValue-clock : (m : List ℕ) (n : ℕ) (v : List ℕ) → sound m ≡ true → clock (localValue m n v .memory) ≡ clock m
+pub localValue-timer : (m : List ℕ) (n : ℕ) (v : List ℕ) → sound m ≡ true → timer (localValue m n v .memory) ≡ timer m
 unfolding localValue localChecks
-localValue-clock m n v s =
-    call-memory (SameClock m) (localChecks m n v) _ m [] refl
-    (λ e. local-clock m n v s (local-opened n v (first-passed 11 _ _ (first-passed 0 _ _ e .1) .0)))
+localValue-timer m n v s =
+    call-memory (SameTimer m) (localChecks m n v) _ m [] refl
+    (λ e. local-timer m n v s (local-opened n v (first-passed 11 _ _ (first-passed 0 _ _ e .1) .0)))
 
 -- ---- one call while a notification waits
 
@@ -173,38 +173,38 @@ record Passes (m : List ℕ) (n : ℕ) (c : Call) : Type 0 where
   meanwhile : Meanwhile c (gives m c .number)
 
 -- memory with the same timer
-same-waits : (m m′ : List ℕ) (n : ℕ) → Waits m n → sound m′ ≡ true → clock m′ ≡ clock m → Waits m′ (n + 0)
+same-waits : (m m′ : List ℕ) (n : ℕ) → Waits m n → sound m′ ≡ true → timer m′ ≡ timer m → Waits m′ (n + 0)
 unfolding waiting expiries
 same-waits m m′ n w s e =
     record {
       isSound = s;
-      clock = record { waits = rw e (w .clock .waits); count = rw e (w .clock .count ∙ (omega arith)) };
+      timer = record { waits = rw e (w .timer .waits); count = rw e (w .timer .count ∙ (omega arith)) };
     }
 
 -- a build is refused: too little room, or already waiting
-pub waiting-build : (m room : List ℕ) (n : ℕ) → Waits m n → (build m room ≡ told 11 m room) ⊎ (build m room ≡ told 10 m room)
+pub waiting-build : (m room : List ℕ) (n : ℕ) → Waits m n → (build m room ≡ numberOnly 11 m room) ⊎ (build m room ≡ numberOnly 10 m room)
 waiting-build m room n w = go (decLe 1600 (length room))
   where
-    go : Dec (1600 ≤ length room) → (build m room ≡ told 11 m room) ⊎ (build m room ≡ told 10 m room)
-    go (yes h) = inr (build-10 m room (w .isSound) h (w .clock .waits))
+    go : Dec (1600 ≤ length room) → (build m room ≡ numberOnly 11 m room) ⊎ (build m room ≡ numberOnly 10 m room)
+    go (yes h) = inr (build-10 m room (w .isSound) h (w .timer .waits))
     go (no h) = inl (build-11 m room (w .isSound) (omega arith))
 
 build-passes : (m room : List ℕ) (n : ℕ) → Waits m n → Passes m n (buildIn room)
 unfolding gives sends ticks
 build-passes m room n w = go (waiting-build m room n w)
   where
-    go : (build m room ≡ told 11 m room) ⊎ (build m room ≡ told 10 m room) → Passes m n (buildIn room)
+    go : (build m room ≡ numberOnly 11 m room) ⊎ (build m room ≡ numberOnly 10 m room) → Passes m n (buildIn room)
     go (inl e) = record { waits = rw e (same-waits m m n w (w .isSound) refl); sent = rw e; meanwhile = inl (rw e) }
     go (inr e) = record { waits = rw e (same-waits m m n w (w .isSound) refl); sent = rw e; meanwhile = inr (rw e) }
 
 expiry-passes : (m : List ℕ) (n : ℕ) → Waits m n → n < 4 → Passes m n takeExpiry
 unfolding gives sends ticks
 expiry-passes m n w h =
-    let l : expiries m < 4 = rw (w .clock .count) h in
-    let e = expiry-again m (w .isSound) (w .clock .waits) l in
-    let k = again-clock m (w .isSound) (w .clock .waits) l in
+    let l : expiries m < 4 = rw (w .timer .count) h in
+    let e = expiry-again m (w .isSound) (w .timer .waits) l in
+    let k = again-timer m (w .isSound) (w .timer .waits) l in
     record {
-      waits = record { isSound = expiry-sound m (w .isSound); clock = rw (sym (w .clock .count)) k };
+      waits = record { isSound = expiry-sound m (w .isSound); timer = rw (sym (w .timer .count)) k };
       sent = rw e;
       meanwhile = rw e;
     }
@@ -214,13 +214,13 @@ unfolding gives sends ticks ends
 passes m n refresh w e h = absurd (false≢true (sym e))
 passes m n (takeMessage s room) w e h =
     record {
-      waits = same-waits m (message m s room .memory) n w (message-sound m s room (w .isSound)) (message-clock m s room (w .isSound) e);
+      waits = same-waits m (message m s room .memory) n w (message-sound m s room (w .isSound)) (message-timer m s room (w .isSound) e);
       sent = refl;
       meanwhile = tt;
     }
 passes m n (takeValue k v) w e h =
     record {
-      waits = same-waits m (localValue m k v .memory) n w (localValue-sound m k v (w .isSound)) (localValue-clock m k v (w .isSound));
+      waits = same-waits m (localValue m k v .memory) n w (localValue-sound m k v (w .isSound)) (localValue-timer m k v (w .isSound));
       sent = refl;
       meanwhile = tt;
     }
@@ -253,7 +253,7 @@ unfolding build buildChecks
 built-waits m room e =
     let f = call-passed (buildChecks m (length room)) _ m room e in
     let s : sound m ≡ true = first-passed 0 _ _ f .0 in
-    record { isSound = build-sound m room s; clock = rw (call-done (buildChecks m (length room)) _ m room f) (build-leaves m s .clock) }
+    record { isSound = build-sound m room s; timer = rw (call-done (buildChecks m (length room)) _ m room f) (build-leaves m s .timer) }
 
 -- calls in two parts
 after-append : (m : List ℕ) (cs ds : List Call) → afterCalls m (cs ++ ds) ≡ afterCalls (afterCalls m cs) ds
@@ -270,9 +270,9 @@ sendings-append m (c ∷ cs) ds = omega (arith, sendings-append (gives m c .memo
 pub record SentFive (m room : List ℕ) (cs : List Call) : Type 0 where
   pub sent : sendings m (buildIn room ∷ cs) ≡ 5
   pub meanwhile : EachMeanwhile (build m room .memory) cs
-  pub waits : Clock (afterCalls m (buildIn room ∷ cs)) true 4
+  pub waits : Timer (afterCalls m (buildIn room ∷ cs)) true 4
   pub givenUp : expiry (afterCalls m (buildIn room ∷ cs)) .number ≡ 21
-  pub idle : Clock (afterCalls m ((buildIn room ∷ cs) ++ (takeExpiry ∷ []))) false 0
+  pub idle : Timer (afterCalls m ((buildIn room ∷ cs) ++ (takeExpiry ∷ []))) false 0
   pub inAll : sendings m ((buildIn room ∷ cs) ++ (takeExpiry ∷ [])) ≡ 5
 
 -- 01: so an unacknowledged notification is sent five times
@@ -284,14 +284,14 @@ sent-five-times m room cs e u n =
     let l = afterCalls b cs in
     let four : 0 + expiriesIn cs ≡ 4 = omega (arith, n) in
     let w : Waits l 4 = rw four at (p .waits) in
-    let g = expiry-given-up l (w .isSound) (w .clock .waits) (omega (arith, w .clock .count)) in
+    let g = expiry-given-up l (w .isSound) (w .timer .waits) (omega (arith, w .timer .count)) in
     let five : cond (eqb (build m room .number) 0) 1 0 + sendings b cs ≡ 5 = rw (e, p .sent, n) in
     record {
       sent = five;
       meanwhile = p .meanwhile;
-      waits = w .clock;
+      waits = w .timer;
       givenUp = rw g;
-      idle = rw (after-append b cs (takeExpiry ∷ [])) (given-up-clock l (w .isSound) (w .clock .waits) (omega (arith, w .clock .count)));
+      idle = rw (after-append b cs (takeExpiry ∷ [])) (given-up-timer l (w .isSound) (w .timer .waits) (omega (arith, w .timer .count)));
       inAll = rw (sendings-append b cs (takeExpiry ∷ []), g) (omega (arith, five));
     }
 

@@ -1,4 +1,4 @@
--- Sound memory taken apart and put together, and the three kinds of change that keep it sound: an entry put, marks, the clock.
+-- Sound memory taken apart and put together, and the three kinds of change that keep it sound: an entry put, marks, the timer.
 use Prim.Native.Nat.{ℕ, _-_, _≤_, _<_}
 use native.Mathlib.Omega.{arith}
 use native.Mathlib.Decide.{ℕ-discrete}
@@ -13,10 +13,10 @@ use borrow.Author.Tests.{leb-true, eqb-true, eq-eqb, le-leb}
 use Rattle.meaning.specs.Octets.{octet, at16, be16, blank, every, implies}
 use Rattle.meaning.specs.Table.{Row, rowAt, rows, byPort, entryCount, memoryLength, gateEnabled, adminBaseTime, adminControlListLength, adminControlList, adminCycleTime, supportedListMax, commit}
 use Rattle.meaning.specs.Block.{permits}
-use Rattle.meaning.specs.Memory.{cell, room, body, clock, cellOf, roomOf, put, remark, setClock, flags, flagLimit, bit, size, isPresent, isSubscribed, isPending, present, entrySound, entriesSound, fourPresent, clockSound, sound}
+use Rattle.meaning.specs.Memory.{cell, room, body, timer, cellOf, roomOf, put, setMarks, setTimer, flags, flagLimit, bit, size, isPresent, isSubscribed, isPending, present, entrySound, entriesSound, fourPresent, timerSound, sound}
 use Rattle.meaning.proofs.Lists.{at16-be16}
 use Rattle.meaning.proofs.Tests.{implies-of, implied, every-at, below-at, below-all, blank-zeros}
-use Rattle.meaning.proofs.Places.{name-small, most-small, putCell-length, cell-putCell-same, cell-putCell-other, room-putCell, clock-putCell, put-length, cell-put-same, cell-put-other, room-put-same, room-put-other, clock-put, setClock-length, clock-setClock, cell-setClock, room-setClock}
+use Rattle.meaning.proofs.Places.{name-small, most-small, putCell-length, cell-putCell-same, cell-putCell-other, room-putCell, timer-putCell, put-length, cell-put-same, cell-put-other, room-put-same, room-put-other, timer-put, setTimer-length, timer-setTimer, cell-setTimer, room-setTimer}
 
 -- ---- the parts of sound
 
@@ -29,7 +29,7 @@ pub record Sound (m : List ℕ) : Type 0 where
   pub gate : present m gateEnabled ≡ true
   pub listMax : present m supportedListMax ≡ true
   pub runs : present m commit ≡ true → fourPresent m ≡ true
-  pub timed : clockSound (clock m) ≡ true
+  pub timed : timerSound (timer m) ≡ true
 
 pub opened : (m : List ℕ) → sound m ≡ true → Sound m
 unfolding sound entriesSound
@@ -220,7 +220,7 @@ module _ (m : List ℕ) (k : ℕ) (p s q : Bool) (v : List ℕ) (S : Sound m) (h
           gate = present-stays gateEnabled (omega arith) refl (S .gate);
           listMax = present-stays supportedListMax (omega arith) refl (S .listMax);
           runs = λ e. four-stays (runs e (ℕ-discrete commit k));
-          timed = rw (clock-put m k (flags p s q) v (S .long) hk hv) (S .timed);
+          timed = rw (timer-put m k (flags p s q) v (S .long) hk hv) (S .timed);
         }
       where
         entry : (j : ℕ) → j < entryCount → Dec (j ≡ k) → EntrySound put-m j
@@ -241,97 +241,97 @@ module _ (m : List ℕ) (k : ℕ) (s q : Bool) (S : Sound m) (hk : k < entryCoun
   abbrev flags-now : ℕ
   flags-now = flags (present m k) s q
 
-  pub cell-remark-same : cell (remark m k s q) k ≡ cellOf k flags-now (size (cell m k))
-  unfolding remark
-  cell-remark-same = cell-putCell-same m k flags-now (size (cell m k)) (S .long) hk
+  pub cell-setMarks-same : cell (setMarks m k s q) k ≡ cellOf k flags-now (size (cell m k))
+  unfolding setMarks
+  cell-setMarks-same = cell-putCell-same m k flags-now (size (cell m k)) (S .long) hk
 
-  pub cell-remark-other : (j : ℕ) → j ≢ k → cell (remark m k s q) j ≡ cell m j
-  unfolding remark
-  cell-remark-other j ne = cell-putCell-other m k flags-now (size (cell m k)) (S .long) hk j ne
+  pub cell-setMarks-other : (j : ℕ) → j ≢ k → cell (setMarks m k s q) j ≡ cell m j
+  unfolding setMarks
+  cell-setMarks-other j ne = cell-putCell-other m k flags-now (size (cell m k)) (S .long) hk j ne
 
-  pub room-remark : (j : ℕ) → j < entryCount → room (remark m k s q) j ≡ room m j
-  unfolding remark
-  room-remark j hj = room-putCell m k flags-now (size (cell m k)) (S .long) hk j hj
+  pub room-setMarks : (j : ℕ) → j < entryCount → room (setMarks m k s q) j ≡ room m j
+  unfolding setMarks
+  room-setMarks j hj = room-putCell m k flags-now (size (cell m k)) (S .long) hk j hj
 
-  pub present-remark : (j : ℕ) → j < entryCount → present (remark m k s q) j ≡ present m j
+  pub present-setMarks : (j : ℕ) → j < entryCount → present (setMarks m k s q) j ≡ present m j
   unfolding present
-  present-remark j hj = go (ℕ-discrete j k)
+  present-setMarks j hj = go (ℕ-discrete j k)
     where
-      go : Dec (j ≡ k) → isPresent (cell (remark m k s q) j) ≡ isPresent (cell m j)
-      go (yes i) = rw (i, cell-remark-same) (present-cellOf k (isPresent (cell m k)) s q (size (cell m k)))
-      go (no ne) = rw (cell-remark-other j ne)
+      go : Dec (j ≡ k) → isPresent (cell (setMarks m k s q) j) ≡ isPresent (cell m j)
+      go (yes i) = rw (i, cell-setMarks-same) (present-cellOf k (isPresent (cell m k)) s q (size (cell m k)))
+      go (no ne) = rw (cell-setMarks-other j ne)
 
-  pub size-remark : (j : ℕ) → j < entryCount → size (cell (remark m k s q) j) ≡ size (cell m j)
-  size-remark j hj = go (ℕ-discrete j k)
+  pub size-setMarks : (j : ℕ) → j < entryCount → size (cell (setMarks m k s q) j) ≡ size (cell m j)
+  size-setMarks j hj = go (ℕ-discrete j k)
     where
       most : size (cell m k) ≤ rowAt k .most
       most = entry-of m S k hk .inRoom
 
-      go : Dec (j ≡ k) → size (cell (remark m k s q) j) ≡ size (cell m j)
-      go (yes i) = rw (i, cell-remark-same) (size-cellOf k flags-now (size (cell m k)) (omega (arith, most, most-small k hk)))
-      go (no ne) = rw (cell-remark-other j ne)
+      go : Dec (j ≡ k) → size (cell (setMarks m k s q) j) ≡ size (cell m j)
+      go (yes i) = rw (i, cell-setMarks-same) (size-cellOf k flags-now (size (cell m k)) (omega (arith, most, most-small k hk)))
+      go (no ne) = rw (cell-setMarks-other j ne)
 
-  pub body-remark : (j : ℕ) → j < entryCount → body (remark m k s q) j ≡ body m j
+  pub body-setMarks : (j : ℕ) → j < entryCount → body (setMarks m k s q) j ≡ body m j
   unfolding body
-  body-remark j hj = rw (size-remark j hj, room-remark j hj)
+  body-setMarks j hj = rw (size-setMarks j hj, room-setMarks j hj)
 
-  remark-entry : implies q (s && byPort (rowAt k .owner)) ≡ true → (j : ℕ) → j < entryCount → Dec (j ≡ k) → EntrySound (remark m k s q) j
+  setMarks-entry : implies q (s && byPort (rowAt k .owner)) ≡ true → (j : ℕ) → j < entryCount → Dec (j ≡ k) → EntrySound (setMarks m k s q) j
   unfolding present
-  remark-entry marks j hj (yes i) =
+  setMarks-entry marks j hj (yes i) =
       let e = entry-of m S k hk in
-      rw (i, cell-remark-same, room-remark k hk)
+      rw (i, cell-setMarks-same, room-setMarks k hk)
       (cell-right k (isPresent (cell m k)) s q (size (cell m k)) (room m k) hk (e .inRoom) marks (e .held) (e .tail))
-  remark-entry marks j hj (no ne) = rw (cell-remark-other j ne, room-remark j hj) (S .entries j hj)
+  setMarks-entry marks j hj (no ne) = rw (cell-setMarks-other j ne, room-setMarks j hj) (S .entries j hj)
 
-  pub remark-sound : implies q (s && byPort (rowAt k .owner)) ≡ true → sound (remark m k s q) ≡ true
-  unfolding fourPresent remark
-  remark-sound marks =
-      closed (remark m k s q)
+  pub setMarks-sound : implies q (s && byPort (rowAt k .owner)) ≡ true → sound (setMarks m k s q) ≡ true
+  unfolding fourPresent setMarks
+  setMarks-sound marks =
+      closed (setMarks m k s q)
       record {
         long = putCell-length m k flags-now (size (cell m k)) (S .long) hk;
-        entries = λ j hj. remark-entry marks j hj (ℕ-discrete j k);
-        gate = present-remark gateEnabled (omega arith) ∙ S .gate;
-        listMax = present-remark supportedListMax (omega arith) ∙ S .listMax;
+        entries = λ j hj. setMarks-entry marks j hj (ℕ-discrete j k);
+        gate = present-setMarks gateEnabled (omega arith) ∙ S .gate;
+        listMax = present-setMarks supportedListMax (omega arith) ∙ S .listMax;
         runs =
             rw (
-              present-remark commit (omega arith),
-              present-remark adminBaseTime (omega arith),
-              present-remark adminControlListLength (omega arith),
-              present-remark adminControlList (omega arith),
-              present-remark adminCycleTime (omega arith),
+              present-setMarks commit (omega arith),
+              present-setMarks adminBaseTime (omega arith),
+              present-setMarks adminControlListLength (omega arith),
+              present-setMarks adminControlList (omega arith),
+              present-setMarks adminCycleTime (omega arith),
             )
             (S .runs);
-        timed = rw (clock-putCell m k flags-now (size (cell m k)) (S .long) hk) (S .timed);
+        timed = rw (timer-putCell m k flags-now (size (cell m k)) (S .long) hk) (S .timed);
       }
 
--- ---- the clock is set
+-- ---- the timer is set
 
 module _ (m : List ℕ) (w n : ℕ) (S : Sound m) where
-  pub present-setClock : (j : ℕ) → j < entryCount → present (setClock m w n) j ≡ present m j
+  pub present-setTimer : (j : ℕ) → j < entryCount → present (setTimer m w n) j ≡ present m j
   unfolding present
-  present-setClock j hj = rw (cell-setClock m w n (S .long) j hj)
+  present-setTimer j hj = rw (cell-setTimer m w n (S .long) j hj)
 
-  pub body-setClock : (j : ℕ) → j < entryCount → body (setClock m w n) j ≡ body m j
+  pub body-setTimer : (j : ℕ) → j < entryCount → body (setTimer m w n) j ≡ body m j
   unfolding body
-  body-setClock j hj = rw (cell-setClock m w n (S .long) j hj, room-setClock m w n (S .long) j hj)
+  body-setTimer j hj = rw (cell-setTimer m w n (S .long) j hj, room-setTimer m w n (S .long) j hj)
 
-  pub setClock-sound : clockSound (w ∷ n ∷ []) ≡ true → sound (setClock m w n) ≡ true
+  pub setTimer-sound : timerSound (w ∷ n ∷ []) ≡ true → sound (setTimer m w n) ≡ true
   unfolding fourPresent
-  setClock-sound h =
-      closed (setClock m w n)
+  setTimer-sound h =
+      closed (setTimer m w n)
       record {
-        long = setClock-length m w n (S .long);
-        entries = λ j hj. rw (cell-setClock m w n (S .long) j hj, room-setClock m w n (S .long) j hj) (S .entries j hj);
-        gate = present-setClock gateEnabled (omega arith) ∙ S .gate;
-        listMax = present-setClock supportedListMax (omega arith) ∙ S .listMax;
+        long = setTimer-length m w n (S .long);
+        entries = λ j hj. rw (cell-setTimer m w n (S .long) j hj, room-setTimer m w n (S .long) j hj) (S .entries j hj);
+        gate = present-setTimer gateEnabled (omega arith) ∙ S .gate;
+        listMax = present-setTimer supportedListMax (omega arith) ∙ S .listMax;
         runs =
             rw (
-              present-setClock commit (omega arith),
-              present-setClock adminBaseTime (omega arith),
-              present-setClock adminControlListLength (omega arith),
-              present-setClock adminControlList (omega arith),
-              present-setClock adminCycleTime (omega arith),
+              present-setTimer commit (omega arith),
+              present-setTimer adminBaseTime (omega arith),
+              present-setTimer adminControlListLength (omega arith),
+              present-setTimer adminControlList (omega arith),
+              present-setTimer adminCycleTime (omega arith),
             )
             (S .runs);
-        timed = rw (clock-setClock m w n (S .long)) h;
+        timed = rw (timer-setTimer m w n (S .long)) h;
       }

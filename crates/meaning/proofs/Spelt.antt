@@ -10,9 +10,9 @@ use lib.Seq.{getD-drop, length-take-le}
 use lib.Dec.{eqb, leb}
 use borrow.Author.Tests.{leb-true, le-leb, ltb-true, lt-ltb, eqb-true, eq-eqb}
 use Rattle.meaning.specs.Octets.{octet, at16, part, blank, every}
-use Rattle.meaning.specs.Table.{rowAt, roomAt, byPort, entryCount, memoryLength, clockAt, gateEnabled, adminBaseTime, adminControlListLength, adminControlList, adminCycleTime, supportedListMax, commit}
+use Rattle.meaning.specs.Table.{rowAt, roomAt, byPort, entryCount, memoryLength, timerAt, gateEnabled, adminBaseTime, adminControlListLength, adminControlList, adminCycleTime, supportedListMax, commit}
 use Rattle.meaning.specs.Block.{keeps, permits}
-use Rattle.meaning.specs.Memory.{cellAt, cell, room, body, size, clock, isPresent, isSubscribed, isPending, present, subscribed, pending, fourPresent, clockSound, sound}
+use Rattle.meaning.specs.Memory.{cellAt, cell, room, body, size, timer, isPresent, isSubscribed, isPending, present, subscribed, pending, fourPresent, timerSound, sound}
 use Rattle.meaning.proofs.Lists.{part-octet, length-part}
 use Rattle.meaning.proofs.Tests.{and-left, and-right, and-both, every-at, implied, implies-of, blank-octet}
 use Rattle.meaning.proofs.Places.{room-end}
@@ -68,9 +68,9 @@ tail-octet : (m : List ℕ) (k n i : ℕ) → n + i < rowAt k .most → octet (d
 unfolding room
 tail-octet m k n i h = getD-drop n (part m (roomAt k) (rowAt k .most)) i 0 ∙ part-octet m (roomAt k) (rowAt k .most) (n + i) h
 
-clock-octet : (m : List ℕ) (j : ℕ) → j < 2 → octet (clock m) j ≡ octet m (clockAt + j)
-unfolding clock
-clock-octet m j h = part-octet m clockAt 2 j h
+timer-octet : (m : List ℕ) (j : ℕ) → j < 2 → octet (timer m) j ≡ octet m (timerAt + j)
+unfolding timer
+timer-octet m j h = part-octet m timerAt 2 j h
 
 blank-of : (s : List ℕ) → ((i : ℕ) → i < length s → octet s i ≡ 0) → blank s ≡ true
 unfolding blank
@@ -145,34 +145,34 @@ module _ (m : List ℕ) (k : ℕ) (hm : length m ≡ memoryLength) (hk : k < ent
             tail-octet m k n i l ∙ e .tail (n + i) (omega arith) l);
       }
 
--- ---- the clock
+-- ---- the timer
 
-clock-first : (m : List ℕ) → octet (clock m) 0 ≡ octet m 114
-clock-first m = clock-octet m 0 (omega arith)
+timer-first : (m : List ℕ) → octet (timer m) 0 ≡ octet m 114
+timer-first m = timer-octet m 0 (omega arith)
 
-clock-second : (m : List ℕ) → octet (clock m) 1 ≡ octet m 115
-clock-second m = clock-octet m 1 (omega arith)
+timer-second : (m : List ℕ) → octet (timer m) 1 ≡ octet m 115
+timer-second m = timer-octet m 1 (omega arith)
 
 abbrev Timer : List ℕ → Type 0
 Timer m = ((octet m 114 ≡ 1) × (octet m 115 ≤ 4)) ⊎ ((octet m 114 ≡ 0) × (octet m 115 ≡ 0))
 
-clock-spelt : (m : List ℕ) → clockSound (clock m) ≡ true → Timer m
-unfolding clockSound
-clock-spelt m e = go (eqb (octet (clock m) 0) 1) refl e
+timer-spelt : (m : List ℕ) → timerSound (timer m) ≡ true → Timer m
+unfolding timerSound
+timer-spelt m e = go (eqb (octet (timer m) 0) 1) refl e
   where
-    go : (w : Bool) → eqb (octet (clock m) 0) 1 ≡ w
-        → cond w (leb (octet (clock m) 1) 4) (eqb (octet (clock m) 0) 0 && eqb (octet (clock m) 1) 0) ≡ true
+    go : (w : Bool) → eqb (octet (timer m) 0) 1 ≡ w
+        → cond w (leb (octet (timer m) 1) 4) (eqb (octet (timer m) 0) 0 && eqb (octet (timer m) 1) 0) ≡ true
         → Timer m
-    go true w h = inl (sym (clock-first m) ∙ eqb-true _ _ w, rw (clock-second m) at (leb-true (octet (clock m) 1) 4 h))
-    go false w h = inr (sym (clock-first m) ∙ eqb-true _ _ (and-left _ _ h), sym (clock-second m) ∙ eqb-true _ _ (and-right (eqb (octet (clock m) 0) 0) _ h))
+    go true w h = inl (sym (timer-first m) ∙ eqb-true _ _ w, rw (timer-second m) at (leb-true (octet (timer m) 1) 4 h))
+    go false w h = inr (sym (timer-first m) ∙ eqb-true _ _ (and-left _ _ h), sym (timer-second m) ∙ eqb-true _ _ (and-right (eqb (octet (timer m) 0) 0) _ h))
 
-spelt-clock : (m : List ℕ) → Timer m → clockSound (clock m) ≡ true
-unfolding clockSound
-spelt-clock m t = go t
+spelt-timer : (m : List ℕ) → Timer m → timerSound (timer m) ≡ true
+unfolding timerSound
+spelt-timer m t = go t
   where
-    go : Timer m → cond (eqb (octet (clock m) 0) 1) (leb (octet (clock m) 1) 4) (eqb (octet (clock m) 0) 0 && eqb (octet (clock m) 1) 0) ≡ true
-    go (inl h) = rw (clock-first m, clock-second m, h .0) (le-leb _ _ (h .1))
-    go (inr h) = rw (clock-first m, clock-second m, h .0, h .1)
+    go : Timer m → cond (eqb (octet (timer m) 0) 1) (leb (octet (timer m) 1) 4) (eqb (octet (timer m) 0) 0 && eqb (octet (timer m) 1) 0) ≡ true
+    go (inl h) = rw (timer-first m, timer-second m, h .0) (le-leb _ _ (h .1))
+    go (inr h) = rw (timer-first m, timer-second m, h .0, h .1)
 
 -- ---- the memory
 
@@ -185,7 +185,7 @@ sound-spelt m e =
       gatePresent = S .gate;
       listMaxPresent = S .listMax;
       runsOverFour = λ p. let f = S .runs p in (four-at m 0 f, four-at m 1 f, four-at m 2 f, four-at m 3 f);
-      timer = clock-spelt m (S .timed);
+      timer = timer-spelt m (S .timed);
     }
 
 pub spelt-sound : (m : List ℕ) → SoundSpelt m → sound m ≡ true
@@ -198,5 +198,5 @@ spelt-sound m s =
       gate = s .gatePresent;
       listMax = s .listMaxPresent;
       runs = λ p. let f = s .runsOverFour p in simp (f .0, f .1, f .2, f .3);
-      timed = spelt-clock m (s .timer);
+      timed = spelt-timer m (s .timer);
     }

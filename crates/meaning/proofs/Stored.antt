@@ -6,7 +6,7 @@ use mathlib.Core.Bool.{Bool, true, _||_, _&&_}
 use mathlib.Core.List.{List}
 use borrow.Author.Tests.{ne-eqb}
 use Rattle.meaning.specs.Octets.{nonempty}
-use Rattle.meaning.specs.Checks.{firstFailed, settle}
+use Rattle.meaning.specs.Checks.{firstFailed, whenPassed}
 use Rattle.meaning.specs.Table.{rowAt, place, entryCount, commit}
 use Rattle.meaning.specs.Block.{sums}
 use Rattle.meaning.specs.Memory.{present, subscribed, pending, body, store, sound}
@@ -15,7 +15,7 @@ use Rattle.meaning.specs.Step.{value, shown, readChecks, readAnswer, set
 use Rattle.meaning.specs.Calls.{differs, localMemory}
 use Rattle.meaning.proofs.Places.{listed-place}
 use Rattle.meaning.proofs.Sound.{opened, put-present-same, put-present-other, put-body-same, put-body-other}
-use Rattle.meaning.proofs.Settled.{set-stores}
+use Rattle.meaning.proofs.Checked.{set-stores}
 use Rattle.meaning.proofs.Kept.{permits-most, stored-permitted, settable, Local, local-held}
 use Rattle.meaning.proofs.Running.{commit-listed}
 
@@ -63,12 +63,12 @@ local-leaves m n v s l =
 -- what was set is read back
 pub set-read : (m : List ℕ) (n : ℕ) (v : List ℕ) → sound m ≡ true → firstFailed (setChecks m n v) ≡ 0 → place n ≢ commit
     → answer (step m (set n v)) (read n) ≡ value n v
-unfolding answer readAnswer readChecks firstFailed settle shown
+unfolding answer readAnswer readChecks firstFailed whenPassed shown
 set-read m n v s e ne =
     let h = set-leaves m n v s e in
     rw (settable m n v e .isListed, h .presence, ne-eqb (place n) commit ne, h .value, stored-value m (place n) v ne)
 
 -- reading 8001 gives the sums of the running block
 pub read-running : (m : List ℕ) → present m commit ≡ true → answer m (read 0x8001) ≡ value 0x8001 (sums (body m commit))
-unfolding answer readAnswer readChecks firstFailed settle shown
+unfolding answer readAnswer readChecks firstFailed whenPassed shown
 read-running m p = rw (commit-listed .0, commit-listed .1, p)

@@ -8,53 +8,53 @@ use mathlib.Core.List.{List, [], _∷_}
 use lib.ListN.{length}
 use borrow.Author.Tests.{le-leb}
 use Rattle.meaning.specs.Octets.{every, implies, nonempty}
-use Rattle.meaning.specs.Checks.{firstFailed, settle}
+use Rattle.meaning.specs.Checks.{firstFailed, whenPassed}
 use Rattle.meaning.specs.Table.{entryCount}
-use Rattle.meaning.specs.Memory.{clock, waiting, expiries, setClock, subscribed, pending, sound}
-use Rattle.meaning.specs.Calls.{done, told, call, isCommand, isAcknowledgement, deed, acknowledged, fits, messageChecks, message, reports, notification, cleared, buildChecks, build, expiryChecks, expiry}
-use Rattle.meaning.proofs.Places.{clock-setClock, cell-setClock}
+use Rattle.meaning.specs.Memory.{timer, waiting, expiries, setTimer, subscribed, pending, sound}
+use Rattle.meaning.specs.Calls.{done, numberOnly, call, isCommand, isAcknowledgement, effect, acknowledged, fits, messageChecks, message, reports, notification, cleared, buildChecks, build, expiryChecks, expiry}
+use Rattle.meaning.proofs.Places.{timer-setTimer, cell-setTimer}
 use Rattle.meaning.proofs.Sound.{Sound, opened}
 use Rattle.meaning.proofs.Kept.{cleared-sound, expired-again, expired-last}
-use Rattle.meaning.proofs.Marks.{remark-marks, remark-marks-other}
+use Rattle.meaning.proofs.Marks.{setMarks-marks, setMarks-marks-other}
 
--- what the clock says
-pub record Clock (m : List ℕ) (w : Bool) (n : ℕ) : Type 0 where
+-- what the timer says
+pub record Timer (m : List ℕ) (w : Bool) (n : ℕ) : Type 0 where
   pub waits : waiting m ≡ w
   pub count : expiries m ≡ n
 
-clock-waits : (m : List ℕ) (n : ℕ) → Sound m → Clock (setClock m 1 n) true n
+timer-waits : (m : List ℕ) (n : ℕ) → Sound m → Timer (setTimer m 1 n) true n
 unfolding waiting expiries
-clock-waits m n S = record { waits = rw (clock-setClock m 1 n (S .long)); count = rw (clock-setClock m 1 n (S .long)) }
+timer-waits m n S = record { waits = rw (timer-setTimer m 1 n (S .long)); count = rw (timer-setTimer m 1 n (S .long)) }
 
-clock-idles : (m : List ℕ) → Sound m → Clock (setClock m 0 0) false 0
+timer-idles : (m : List ℕ) → Sound m → Timer (setTimer m 0 0) false 0
 unfolding waiting expiries
-clock-idles m S = record { waits = rw (clock-setClock m 0 0 (S .long)); count = rw (clock-setClock m 0 0 (S .long)) }
+timer-idles m S = record { waits = rw (timer-setTimer m 0 0 (S .long)); count = rw (timer-setTimer m 0 0 (S .long)) }
 
 -- ---- message 04 while waiting: the reply 05, and idle
 
 pub acknowledged-idle : (m room : List ℕ) → sound m ≡ true → waiting m ≡ true → 1 ≤ length room
-    → message m (4 ∷ []) room ≡ done (5 ∷ []) (setClock m 0 0) room
-unfolding message call settle messageChecks firstFailed deed acknowledged isCommand isAcknowledgement implies fits every
+    → message m (4 ∷ []) room ≡ done (5 ∷ []) (setTimer m 0 0) room
+unfolding message call whenPassed messageChecks firstFailed effect acknowledged isCommand isAcknowledgement implies fits every
 acknowledged-idle m room s w h = simp (s, w, le-leb 1 (length room) h)
 
-pub acknowledged-clock : (m room : List ℕ) → sound m ≡ true → waiting m ≡ true → 1 ≤ length room → Clock (message m (4 ∷ []) room .memory) false 0
-acknowledged-clock m room s w h = rw (acknowledged-idle m room s w h) (clock-idles m (opened m s))
+pub acknowledged-timer : (m room : List ℕ) → sound m ≡ true → waiting m ≡ true → 1 ≤ length room → Timer (message m (4 ∷ []) room .memory) false 0
+acknowledged-timer m room s w h = rw (acknowledged-idle m room s w h) (timer-idles m (opened m s))
 
 -- ---- expiries: 1 to 4 send again, the fifth gives up
 
-pub expiry-again : (m : List ℕ) → sound m ≡ true → waiting m ≡ true → expiries m < 4 → expiry m ≡ told 20 (setClock m 1 (expiries m + 1)) []
-unfolding expiry call settle expiryChecks firstFailed
+pub expiry-again : (m : List ℕ) → sound m ≡ true → waiting m ≡ true → expiries m < 4 → expiry m ≡ numberOnly 20 (setTimer m 1 (expiries m + 1)) []
+unfolding expiry call whenPassed expiryChecks firstFailed
 expiry-again m s w h = simp (s, w) (expired-again m h)
 
-pub expiry-given-up : (m : List ℕ) → sound m ≡ true → waiting m ≡ true → 4 ≤ expiries m → expiry m ≡ told 21 (setClock m 0 0) []
-unfolding expiry call settle expiryChecks firstFailed
+pub expiry-given-up : (m : List ℕ) → sound m ≡ true → waiting m ≡ true → 4 ≤ expiries m → expiry m ≡ numberOnly 21 (setTimer m 0 0) []
+unfolding expiry call whenPassed expiryChecks firstFailed
 expiry-given-up m s w h = simp (s, w) (expired-last m h)
 
-pub again-clock : (m : List ℕ) → sound m ≡ true → waiting m ≡ true → expiries m < 4 → Clock (expiry m .memory) true (expiries m + 1)
-again-clock m s w h = rw (expiry-again m s w h) (clock-waits m (expiries m + 1) (opened m s))
+pub again-timer : (m : List ℕ) → sound m ≡ true → waiting m ≡ true → expiries m < 4 → Timer (expiry m .memory) true (expiries m + 1)
+again-timer m s w h = rw (expiry-again m s w h) (timer-waits m (expiries m + 1) (opened m s))
 
-pub given-up-clock : (m : List ℕ) → sound m ≡ true → waiting m ≡ true → 4 ≤ expiries m → Clock (expiry m .memory) false 0
-given-up-clock m s w h = rw (expiry-given-up m s w h) (clock-idles m (opened m s))
+pub given-up-timer : (m : List ℕ) → sound m ≡ true → waiting m ≡ true → 4 ≤ expiries m → Timer (expiry m .memory) false 0
+given-up-timer m s w h = rw (expiry-given-up m s w h) (timer-idles m (opened m s))
 
 -- ---- building
 
@@ -74,30 +74,30 @@ cleared-marks (suc k) m h s j = go (ℕ-discrete j k) (cleared-marks k m (omega 
     go : Dec (j ≡ k) → (subscribed c j ≡ subscribed m j) × (j < k → pending c j ≡ false)
         → (subscribed (cleared (suc k) m) j ≡ subscribed m j) × (j < suc k → pending (cleared (suc k) m) j ≡ false)
     go (yes i) ih =
-        let t = remark-marks c k (subscribed c k) false S (omega arith) in
+        let t = setMarks-marks c k (subscribed c k) false S (omega arith) in
         (ap (subscribed (cleared (suc k) m)) i ∙ t .subscription ∙ ap (subscribed c) (sym i) ∙ ih .0, λ l. ap (pending (cleared (suc k) m)) i ∙ t .pendency)
     go (no ne) ih =
-        let t = remark-marks-other c k (subscribed c k) false S (omega arith) j ne in
+        let t = setMarks-marks-other c k (subscribed c k) false S (omega arith) j ne in
         (t .subscription ∙ ih .0, λ l. t .pendency ∙ ih .1 (omega arith))
 
 pub build-does : (m room : List ℕ) → sound m ≡ true → 1600 ≤ length room → waiting m ≡ false → nonempty (reports m entryCount) ≡ true
-    → build m room ≡ done (notification m) (setClock (cleared entryCount m) 1 0) room
-unfolding build call settle buildChecks firstFailed
+    → build m room ≡ done (notification m) (setTimer (cleared entryCount m) 1 0) room
+unfolding build call whenPassed buildChecks firstFailed
 build-does m room s h w n = simp (s, le-leb 1600 (length room) h, w, n)
 
 -- what a notification that was built leaves: waiting, no expiry yet, nothing pending, every subscription
 pub record Built (m m′ : List ℕ) : Type 0 where
-  pub clock : Clock m′ true 0
+  pub timer : Timer m′ true 0
   pub nothingPending : (j : ℕ) → j < entryCount → pending m′ j ≡ false
   pub subscriptions : (j : ℕ) → j < entryCount → subscribed m′ j ≡ subscribed m j
 
-pub build-leaves : (m : List ℕ) → sound m ≡ true → Built m (setClock (cleared entryCount m) 1 0)
+pub build-leaves : (m : List ℕ) → sound m ≡ true → Built m (setTimer (cleared entryCount m) 1 0)
 unfolding pending subscribed
 build-leaves m s =
     let c = cleared entryCount m in
     let S = opened c (cleared-sound entryCount m (omega arith) s) in
     record {
-      clock = clock-waits c 0 S;
-      nothingPending = λ j hj. rw (cell-setClock c 1 0 (S .long) j hj) (cleared-marks entryCount m (omega arith) s j .1 hj);
-      subscriptions = λ j hj. rw (cell-setClock c 1 0 (S .long) j hj) (cleared-marks entryCount m (omega arith) s j .0);
+      timer = timer-waits c 0 S;
+      nothingPending = λ j hj. rw (cell-setTimer c 1 0 (S .long) j hj) (cleared-marks entryCount m (omega arith) s j .1 hj);
+      subscriptions = λ j hj. rw (cell-setTimer c 1 0 (S .long) j hj) (cleared-marks entryCount m (omega arith) s j .0);
     }

@@ -8,12 +8,12 @@ use Rattle.meaning.specs.Octets.{octet, at32, be16, part, every}
 use Rattle.meaning.specs.Table.{Rule, free, within, time, entries, ratio, running, Row}
 
 -- the number that octets spell, the high octet first
-unfoldable pub numberFrom : ℕ → List ℕ → ℕ
-numberFrom n [] = n
-numberFrom n (x ∷ xs) = numberFrom (n * 256 + x) xs
+unfoldable pub asNumberFrom : ℕ → List ℕ → ℕ
+asNumberFrom n [] = n
+asNumberFrom n (x ∷ xs) = asNumberFrom (n * 256 + x) xs
 
-unfoldable pub number : List ℕ → ℕ
-number v = numberFrom 0 v
+unfoldable pub asNumber : List ℕ → ℕ
+asNumber v = asNumberFrom 0 v
 
 -- ---- AdminBaseTime: seconds (6), nanoseconds (4) under 1,000,000,000
 
@@ -100,10 +100,10 @@ formAndFit b =
     every
     (leb 22 (length b)
     ∷ timeOk (baseOf b)
-    ∷ leb (number (countOf b)) 64
+    ∷ leb (asNumber (countOf b)) 64
     ∷ listOk (listOf b)
     ∷ ratioOk (ratioOf b)
-    ∷ eqb (number (countOf b)) n
+    ∷ eqb (asNumber (countOf b)) n
     ∷ leb 1 n
     ∷ leb (intervals (entriesOf (listOf b))) (cycle (ratioOf b))
     ∷ [])
@@ -112,7 +112,7 @@ formAndFit b =
 
 unfoldable pub keeps : Rule → List ℕ → Bool
 keeps free v = true
-keeps (within a b) v = leb a (number v) && leb (number v) b
+keeps (within a b) v = leb a (asNumber v) && leb (asNumber v) b
 keeps time v = timeOk v
 keeps entries v = listOk v
 keeps ratio v = ratioOk v

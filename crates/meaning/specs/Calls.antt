@@ -5,10 +5,11 @@ use mathlib.Core.List.{List, [], _∷_, _++_}
 use lib.ListN.{length, drop}
 use lib.Dec.{eqb, leb, ltb}
 use Rattle.meaning.specs.Octets.{octet, at16, be16, part, same, nonempty, every, implies}
-use Rattle.meaning.specs.Checks.{Checks, passed, check, firstFailed, settle}
+use Rattle.meaning.specs.Checks.{Checks, passed, check, firstFailed, whenPassed}
 use Rattle.meaning.specs.Table.{rowAt, place, listed, byPort, entryCount, memoryLength}
+use Rattle.meaning.specs.Wire.{typeCommand, typeNotify, typeNotifyAck, typeNotifyComplete, causeUnavailable, messageMost, replyMost, notificationRoom, expiriesMost}
 use Rattle.meaning.specs.Block.{permits}
-use Rattle.meaning.specs.Memory.{present, subscribed, pending, body, flags, put, remark, setClock, waiting, expiries, sound, fresh}
+use Rattle.meaning.specs.Memory.{present, subscribed, pending, body, flags, put, setMarks, setTimer, waiting, expiries, sound, fresh}
 use Rattle.meaning.specs.Operation.{Op, parse, isSome, orNone}
 use Rattle.meaning.specs.Step.{Answer, value, readError, after, answers}
 use Rattle.meaning.specs.Reply.{Records, gathered, complete, countsFit, readContents}
@@ -25,21 +26,21 @@ abbrev pub done : List ℕ → List ℕ → List ℕ → Outcome
 done w m room = record { number = 0; written = w; memory = m; room = w ++ drop (length w) room }
 
 -- a number with nothing written
-abbrev pub told : ℕ → List ℕ → List ℕ → Outcome
-told n m room = record { number = n; written = []; memory = m; room = room }
+abbrev pub numberOnly : ℕ → List ℕ → List ℕ → Outcome
+numberOnly n m room = record { number = n; written = []; memory = m; room = room }
 
 -- a call: where a check fails its number, and no lent octet changes
 unfoldable pub call : Checks → Outcome → List ℕ → List ℕ → Outcome
-call cs o m room = settle (firstFailed cs) o (λ n. told n m room)
+call cs o m room = whenPassed (firstFailed cs) o (λ n. numberOnly n m room)
 
 -- ---- a message
 
 -- the two types: 01 a command, 04 an acknowledgement
 unfoldable pub isCommand : List ℕ → Bool
-isCommand s = eqb (octet s 0) 1
+isCommand s = eqb (octet s 0) typeCommand
 
 unfoldable pub isAcknowledgement : List ℕ → Bool
-isAcknowledgement s = eqb (octet s 0) 4
+isAcknowledgement s = eqb (octet s 0) typeNotifyAck
 
 -- L, and the L octets of operations; octets after them are ignored
 unfoldable pub lengthField : List ℕ → ℕ
@@ -56,7 +57,7 @@ unfoldable pub lengthRight : List ℕ → Bool
 lengthRight s = every (leb 3 (length s) ∷ leb 1 (lengthField s) ∷ leb (3 + lengthField s) (length s) ∷ [])
 
 -- what a message does once its checks pass: its reply, whether the reply's counts fit, and the memory afterwards
-pub record Deed : Type 0 where
+pub record Effect : Type 0 where
   pub reply : List ℕ
   pub counted : Bool
   pub memory : List ℕ
@@ -64,32 +65,32 @@ pub record Deed : Type 0 where
 unfoldable pub records : List ℕ → List Op → Records
 records m os = gathered (answers m os)
 
-unfoldable pub carriedOut : List ℕ → List Op → Deed
+unfoldable pub carriedOut : List ℕ → List Op → Effect
 carriedOut m os = record { reply = complete (records m os); counted = countsFit (records m os); memory = after m os }
 
-unfoldable pub acknowledged : List ℕ → Deed
-acknowledged m = record { reply = 5 ∷ []; counted = true; memory = setClock m 0 0 }
+unfoldable pub acknowledged : List ℕ → Effect
+acknowledged m = record { reply = typeNotifyComplete ∷ []; counted = true; memory = setTimer m 0 0 }
 
-unfoldable pub deed : List ℕ → List ℕ → Deed
-deed m s = cond (isCommand s) (carriedOut m (opsOf s)) (acknowledged m)
+unfoldable pub effect : List ℕ → List ℕ → Effect
+effect m s = cond (isCommand s) (carriedOut m (opsOf s)) (acknowledged m)
 
-unfoldable pub fits : ℕ → Deed → Bool
-fits n d = every (leb (length (d .reply)) n ∷ leb (length (d .reply)) 4096 ∷ d .counted ∷ [])
+unfoldable pub fits : ℕ → Effect → Bool
+fits n d = every (leb (length (d .reply)) n ∷ leb (length (d .reply)) replyMost ∷ d .counted ∷ [])
 
 -- 1 to 6, with 8 for type 04, then 7
 unfoldable pub messageChecks : List ℕ → List ℕ → ℕ → Checks
 messageChecks m s n =
     check 1 (sound m)
     (check 2 (leb 1 (length s))
-    (check 3 (leb (length s) 2048)
+    (check 3 (leb (length s) messageMost)
     (check 4 (isCommand s || isAcknowledgement s)
     (check 5 (implies (isCommand s) (lengthRight s))
     (check 6 (implies (isCommand s) (isSome (parse (operations s))))
     (check 8 (implies (isAcknowledgement s) (waiting m))
-    (check 7 (fits n (deed m s)) passed)))))))
+    (check 7 (fits n (effect m s)) passed)))))))
 
 unfoldable pub message : List ℕ → List ℕ → List ℕ → Outcome
-message m s room = call (messageChecks m s (length room)) (done (deed m s .reply) (deed m s .memory) room) m room
+message m s room = call (messageChecks m s (length room)) (done (effect m s .reply) (effect m s .memory) room) m room
 
 -- ---- a local value
 
@@ -114,12 +115,12 @@ unfoldable pub localChecks : List ℕ → ℕ → List ℕ → Checks
 localChecks m n v = check 1 (sound m) (check 12 (localPermitted n v) passed)
 
 unfoldable pub localValue : List ℕ → ℕ → List ℕ → Outcome
-localValue m n v = call (localChecks m n v) (told 0 (localMemory m (place n) v) []) m []
+localValue m n v = call (localChecks m n v) (numberOnly 0 (localMemory m (place n) v) []) m []
 
 -- ---- a notification
 
 unfoldable pub report : List ℕ → ℕ → Answer
-report m k = cond (present m k) (value (rowAt k .name) (body m k)) (readError (rowAt k .name) 0x03)
+report m k = cond (present m k) (value (rowAt k .name) (body m k)) (readError (rowAt k .name) causeUnavailable)
 
 -- of the pending names among the first k, in table order
 unfoldable pub reports : List ℕ → ℕ → List Answer
@@ -129,28 +130,28 @@ reports m (suc k) = reports m k ++ cond (pending m k) (report m k ∷ []) []
 unfoldable pub notification : List ℕ → List ℕ
 notification m =
     let c = readContents (gathered (reports m entryCount)) in
-    3 ∷ be16 (length c) ++ c
+    typeNotify ∷ be16 (length c) ++ c
 
 -- the pending marks of the first k entries cleared
 unfoldable pub cleared : ℕ → List ℕ → List ℕ
 cleared zero m = m
-cleared (suc k) m = let c = cleared k m in remark c k (subscribed c k) false
+cleared (suc k) m = let c = cleared k m in setMarks c k (subscribed c k) false
 
 unfoldable pub buildChecks : List ℕ → ℕ → Checks
 buildChecks m n =
     check 1 (sound m)
-    (check 11 (leb 1600 n)
+    (check 11 (leb notificationRoom n)
     (check 10 (not (waiting m))
     (check 9 (nonempty (reports m entryCount)) passed)))
 
 unfoldable pub build : List ℕ → List ℕ → Outcome
 build m room =
-    call (buildChecks m (length room)) (done (notification m) (setClock (cleared entryCount m) 1 0) room) m room
+    call (buildChecks m (length room)) (done (notification m) (setTimer (cleared entryCount m) 1 0) room) m room
 
 -- ---- a timer expiry: 20 send again, 21 given up
 
 unfoldable pub expired : List ℕ → Outcome
-expired m = cond (ltb (expiries m) 4) (told 20 (setClock m 1 (expiries m + 1)) []) (told 21 (setClock m 0 0) [])
+expired m = cond (ltb (expiries m) expiriesMost) (numberOnly 20 (setTimer m 1 (expiries m + 1)) []) (numberOnly 21 (setTimer m 0 0) [])
 
 unfoldable pub expiryChecks : List ℕ → Checks
 expiryChecks m = check 1 (sound m) (check 8 (waiting m) passed)
@@ -161,4 +162,4 @@ expiry m = call (expiryChecks m) (expired m) m []
 -- ---- make it fresh
 
 unfoldable pub makeFresh : List ℕ → Outcome
-makeFresh m = call (check 1 (eqb (length m) memoryLength) passed) (told 0 fresh []) m []
+makeFresh m = call (check 1 (eqb (length m) memoryLength) passed) (numberOnly 0 fresh []) m []

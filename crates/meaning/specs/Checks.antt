@@ -14,6 +14,6 @@ firstFailed (check n true cs) = firstFailed cs
 firstFailed (check n false cs) = n
 
 -- what is done at number 0, else what is made of the number
-unfoldable pub settle : {A : Type 0} → ℕ → A → (ℕ → A) → A
-settle zero done refused = done
-settle (suc n) done refused = refused (suc n)
+unfoldable pub whenPassed : {A : Type 0} → ℕ → A → (ℕ → A) → A
+whenPassed zero done refused = done
+whenPassed (suc n) done refused = refused (suc n)

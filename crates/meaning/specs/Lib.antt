@@ -2,6 +2,7 @@
 pub mod Octets
 pub mod Checks
 pub mod Table
+pub mod Wire
 pub mod Block
 pub mod Memory
 pub mod Delay

@@ -5,7 +5,8 @@ use mathlib.Core.List.{List, [], _∷_, _++_}
 use lib.ListN.{length, take, drop}
 use lib.Dec.{eqb, leb, ltb}
 use Rattle.meaning.specs.Octets.{octet, at16, be16, be32, part, splice, zeros, blank, every, below, implies}
-use Rattle.meaning.specs.Table.{Row, rowAt, roomAt, byPort, entryCount, memoryLength, clockAt, gateEnabled, adminBaseTime, adminControlListLength, adminControlList, adminCycleTime, supportedListMax, commit}
+use Rattle.meaning.specs.Table.{Row, rowAt, roomAt, byPort, entryCount, memoryLength, timerAt, gateEnabled, adminBaseTime, adminControlListLength, adminControlList, adminCycleTime, supportedListMax, commit}
+use Rattle.meaning.specs.Wire.{expiriesMost}
 use Rattle.meaning.specs.Block.{permits}
 
 -- ---- a cell: name (2), flags (1), zero (1), length (2)
@@ -51,14 +52,14 @@ body m k = take (size (cell m k)) (room m k)
 
 -- ---- the timer: 0 idle or 1 waiting, then the expiries
 
-unfoldable pub clock : List ℕ → List ℕ
-clock m = part m clockAt 2
+unfoldable pub timer : List ℕ → List ℕ
+timer m = part m timerAt 2
 
 unfoldable pub waiting : List ℕ → Bool
-waiting m = eqb (octet (clock m) 0) 1
+waiting m = eqb (octet (timer m) 0) 1
 
 unfoldable pub expiries : List ℕ → ℕ
-expiries m = octet (clock m) 1
+expiries m = octet (timer m) 1
 
 -- ---- changes
 
@@ -92,11 +93,11 @@ unfoldable pub store : List ℕ → ℕ → List ℕ → List ℕ
 store m k v = put m k (flags true (subscribed m k) (pending m k)) v
 
 -- other marks, presence and value as they were
-unfoldable pub remark : List ℕ → ℕ → Bool → Bool → List ℕ
-remark m k s q = putCell m k (flags (present m k) s q) (size (cell m k))
+unfoldable pub setMarks : List ℕ → ℕ → Bool → Bool → List ℕ
+setMarks m k s q = putCell m k (flags (present m k) s q) (size (cell m k))
 
-unfoldable pub setClock : List ℕ → ℕ → ℕ → List ℕ
-setClock m w n = splice m clockAt (w ∷ n ∷ [])
+unfoldable pub setTimer : List ℕ → ℕ → ℕ → List ℕ
+setTimer m w n = splice m timerAt (w ∷ n ∷ [])
 
 -- ---- sound memory
 
@@ -127,8 +128,8 @@ fourPresent m =
     ∷ [])
 
 -- waiting with 0 to 4 expiries, or idle with none
-unfoldable pub clockSound : List ℕ → Bool
-clockSound c = cond (eqb (octet c 0) 1) (leb (octet c 1) 4) (eqb (octet c 0) 0 && eqb (octet c 1) 0)
+unfoldable pub timerSound : List ℕ → Bool
+timerSound c = cond (eqb (octet c 0) 1) (leb (octet c 1) expiriesMost) (eqb (octet c 0) 0 && eqb (octet c 1) 0)
 
 unfoldable pub sound : List ℕ → Bool
 sound m =
@@ -138,7 +139,7 @@ sound m =
     ∷ present m gateEnabled
     ∷ present m supportedListMax
     ∷ implies (present m commit) (fourPresent m)
-    ∷ clockSound (clock m)
+    ∷ timerSound (timer m)
     ∷ [])
 
 -- ---- fresh memory: 0003 holds 00, 000B holds 00000040, all else absent, unsubscribed and idle

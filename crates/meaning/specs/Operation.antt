@@ -6,6 +6,7 @@ use mathlib.Core.Option.{Option, none, some}
 use lib.ListN.{length, drop}
 use lib.Dec.{eqb, leb}
 use Rattle.meaning.specs.Octets.{at16, part}
+use Rattle.meaning.specs.Wire.{codeCapabilities, codeRead, codeSet, codeSubscribe, codeUnsubscribe}
 
 pub data Op : Type 0 where
   capabilities : Op
@@ -23,11 +24,11 @@ pub data Shape : Type 0 where
 
 unfoldable pub shape : ℕ → Shape
 shape c =
-    cond (eqb c 1) (alone capabilities)
-    (cond (eqb c 2) (named read)
-    (cond (eqb c 3) (valued set)
-    (cond (eqb c 4) (named subscribe)
-    (cond (eqb c 5) (named unsubscribe)
+    cond (eqb c codeCapabilities) (alone capabilities)
+    (cond (eqb c codeRead) (named read)
+    (cond (eqb c codeSet) (valued set)
+    (cond (eqb c codeSubscribe) (named subscribe)
+    (cond (eqb c codeUnsubscribe) (named unsubscribe)
     malformed))))
 
 -- an operation and the octets after it, or one that is malformed or cut short

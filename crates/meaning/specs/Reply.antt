@@ -6,6 +6,7 @@ use lib.ListN.{length}
 use lib.Dec.{leb}
 use Rattle.meaning.specs.Octets.{be16, flat, nonempty, every}
 use Rattle.meaning.specs.Table.{Row, rows}
+use Rattle.meaning.specs.Wire.{typeComplete, elementCapability, elementStatus, elementUpdateResult, countMost, shortMost}
 use Rattle.meaning.specs.Step.{Answer, names, value, readError, update, updateError, silent}
 
 -- a name and a value; a name and a cause
@@ -56,7 +57,7 @@ recordOf names = kinds true [] [] [] [] []
 recordOf (value n v) = kinds false (held n v) [] [] [] []
 recordOf (readError n c) = kinds false [] (failed n c) [] [] []
 recordOf (update n v) =
-    cond (leb (length v) 255) (kinds false [] [] (held n v) [] []) (kinds false [] [] [] [] (held n v))
+    cond (leb (length v) shortMost) (kinds false [] [] (held n v) [] []) (kinds false [] [] [] [] (held n v))
 recordOf (updateError n c) = kinds false [] [] [] (failed n c) []
 recordOf silent = noRecords
 
@@ -111,16 +112,16 @@ anySet r = nonempty (r .updates) || (nonempty (r .updateErrors) || nonempty (r .
 
 unfoldable pub complete : Records → List ℕ
 complete r =
-    2 ∷ element 0x70 (r .capabilities) allNames
-    ++ (element 0x71 (anyRead r) (readContents r)
-    ++ element 0x72 (anySet r) (setContents r))
+    typeComplete ∷ element elementCapability (r .capabilities) allNames
+    ++ (element elementStatus (anyRead r) (readContents r)
+    ++ element elementUpdateResult (anySet r) (setContents r))
 
--- no count is over 255
+-- no count is over what its octet can tell
 unfoldable pub countsFit : Records → Bool
 countsFit r =
     every
-    (leb (length (r .values)) 255
-    ∷ leb (length (r .readErrors)) 255
-    ∷ leb (length (r .updates)) 255
-    ∷ leb (length (r .updateErrors)) 255
+    (leb (length (r .values)) countMost
+    ∷ leb (length (r .readErrors)) countMost
+    ∷ leb (length (r .updates)) countMost
+    ∷ leb (length (r .updateErrors)) countMost
     ∷ [])

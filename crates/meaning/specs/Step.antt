@@ -5,10 +5,11 @@ use mathlib.Core.List.{List, [], _∷_}
 use lib.ListN.{length}
 use lib.Dec.{eqb}
 use Rattle.meaning.specs.Octets.{same, every}
-use Rattle.meaning.specs.Checks.{Checks, passed, check, firstFailed, settle}
+use Rattle.meaning.specs.Checks.{Checks, passed, check, firstFailed, whenPassed}
 use Rattle.meaning.specs.Table.{rowAt, place, listed, byController, adminBaseTime, adminControlListLength, adminControlList, adminCycleTime, commit}
+use Rattle.meaning.specs.Wire.{causeNotSupported, causeInvalidValue, causeUnavailable, causeProtocolError}
 use Rattle.meaning.specs.Block.{sums, joinedBlock, formAndFit, permits}
-use Rattle.meaning.specs.Memory.{present, pending, body, store, remark, fourPresent}
+use Rattle.meaning.specs.Memory.{present, pending, body, store, setMarks, fourPresent}
 use Rattle.meaning.specs.Operation.{Op, capabilities, read, set, subscribe, unsubscribe}
 
 -- an answer: all names; a value or a cause to a read; a value or a cause to a set; no record
@@ -28,11 +29,11 @@ shown m k = cond (eqb k commit) (sums (body m commit)) (body m k)
 
 unfoldable pub readChecks : List ℕ → ℕ → Checks
 readChecks m n =
-    check 0x01 (listed n)
-    (check 0x03 (present m (place n)) passed)
+    check causeNotSupported (listed n)
+    (check causeUnavailable (present m (place n)) passed)
 
 unfoldable pub readAnswer : List ℕ → ℕ → Answer
-readAnswer m n = settle (firstFailed (readChecks m n)) (value n (shown m (place n))) (readError n)
+readAnswer m n = whenPassed (firstFailed (readChecks m n)) (value n (shown m (place n))) (readError n)
 
 -- ---- set
 
@@ -55,27 +56,27 @@ permitted m k v = cond (eqb k commit) (commits m v) (permits (rowAt k) v)
 -- cause 01, name not in the table; 6F, not set by the controller; 02, length or value rule or commit not met
 unfoldable pub setChecks : List ℕ → ℕ → List ℕ → Checks
 setChecks m n v =
-    check 0x01 (listed n)
-    (check 0x6F (byController (rowAt (place n) .owner))
-    (check 0x02 (permitted m (place n) v) passed))
+    check causeNotSupported (listed n)
+    (check causeProtocolError (byController (rowAt (place n) .owner))
+    (check causeInvalidValue (permitted m (place n) v) passed))
 
 unfoldable pub setAnswer : List ℕ → ℕ → List ℕ → Answer
-setAnswer m n v = settle (firstFailed (setChecks m n v)) (update n v) (updateError n)
+setAnswer m n v = whenPassed (firstFailed (setChecks m n v)) (update n v) (updateError n)
 
 -- what the body becomes: the block for a commit, else the value
 unfoldable pub stored : List ℕ → ℕ → List ℕ → List ℕ
 stored m k v = cond (eqb k commit) (block m) v
 
 unfoldable pub setMemory : List ℕ → ℕ → List ℕ → List ℕ
-setMemory m n v = settle (firstFailed (setChecks m n v)) (store m (place n) (stored m (place n) v)) (λ cause. m)
+setMemory m n v = whenPassed (firstFailed (setChecks m n v)) (store m (place n) (stored m (place n) v)) (λ cause. m)
 
 -- ---- subscribe and unsubscribe: nothing on unlisted names
 
 unfoldable pub subscribeMemory : List ℕ → ℕ → List ℕ
-subscribeMemory m n = cond (listed n) (remark m (place n) true (pending m (place n))) m
+subscribeMemory m n = cond (listed n) (setMarks m (place n) true (pending m (place n))) m
 
 unfoldable pub unsubscribeMemory : List ℕ → ℕ → List ℕ
-unsubscribeMemory m n = cond (listed n) (remark m (place n) false false) m
+unsubscribeMemory m n = cond (listed n) (setMarks m (place n) false false) m
 
 -- ---- an operation, and one after another
 

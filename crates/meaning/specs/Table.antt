@@ -110,8 +110,8 @@ abbrev pub memoryLength : ℕ
 memoryLength = 2100
 
 -- the timer's two octets come after the 19 cells, the bodies after them
-abbrev pub clockAt : ℕ
-clockAt = 114
+abbrev pub timerAt : ℕ
+timerAt = 114
 
 abbrev pub bodiesAt : ℕ
 bodiesAt = 116

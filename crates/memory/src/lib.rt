@@ -6,7 +6,7 @@ ghost use mathlib.Core.List.{_∷_, _++_};
 ghost use lib.ListN.{length};
 ghost use Rattle.meaning.specs.Octets.{be16};
 ghost use Rattle.meaning.specs.Table.{entryCount, memoryLength, rowAt};
-ghost use Rattle.meaning.specs.Memory.{cell, room, isPresent, isSubscribed, isPending, size, present, subscribed, pending, body, waiting, expiries, bit, flags, putCell, putRoom, put, store, remark, setClock, fourPresent, absent, fresh};
+ghost use Rattle.meaning.specs.Memory.{cell, room, isPresent, isSubscribed, isPending, size, present, subscribed, pending, body, waiting, expiries, bit, flags, putCell, putRoom, put, store, setMarks, setTimer, fourPresent, absent, fresh};
 
 // ---- what memory says of a parameter
 
@@ -15,8 +15,8 @@ pub fn cell(m: &[u8], k: usize) -> &[u8]
     requires { ⌜ (length (now m) ≡ memoryLength) × (k < entryCount) ⌝ }
     ensures { λ r. ⌜ (now r ≡ cell (now (m .entry)) k) × (length (now r) ≡ 6) ⌝ }
 {
-    let at = 6 * k;
-    &m[at..at + 6]
+    let at = table::CELL_LENGTH * k;
+    &m[at..at + table::CELL_LENGTH]
 }
 
 // The room at a place.
@@ -35,21 +35,21 @@ pub fn is_present(c: &[u8]) -> bool
     requires { ⌜ length (now c) ≡ 6 ⌝ }
     ensures { λ r. ⌜ r ≡ isPresent (now (c .entry)) ⌝ }
 {
-    c[2] % 2 == 1
+    c[table::FLAGS_AT] % 2 == 1
 }
 
 pub fn is_subscribed(c: &[u8]) -> bool
     requires { ⌜ length (now c) ≡ 6 ⌝ }
     ensures { λ r. ⌜ r ≡ isSubscribed (now (c .entry)) ⌝ }
 {
-    c[2] / 2 % 2 == 1
+    c[table::FLAGS_AT] / table::SUBSCRIBED % 2 == 1
 }
 
 pub fn is_pending(c: &[u8]) -> bool
     requires { ⌜ length (now c) ≡ 6 ⌝ }
     ensures { λ r. ⌜ r ≡ isPending (now (c .entry)) ⌝ }
 {
-    c[2] / 4 % 2 == 1
+    c[table::FLAGS_AT] / table::PENDING % 2 == 1
 }
 
 // The length that a cell gives.
@@ -57,7 +57,7 @@ pub fn size(c: &[u8]) -> usize
     requires { ⌜ length (now c) ≡ 6 ⌝ }
     ensures { λ r. ⌜ (r ≡ size (now (c .entry))) × (r < 65536) ⌝ }
 {
-    octets::get16(c, 4)
+    octets::get16(c, table::SIZE_AT)
 }
 
 // Whether the value at a place is present.
@@ -99,7 +99,7 @@ pub fn waiting(m: &[u8]) -> bool
     requires { ⌜ length (now m) ≡ memoryLength ⌝ }
     ensures { λ r. ⌜ r ≡ waiting (now (m .entry)) ⌝ }
 {
-    m[table::CLOCK_AT] == 1
+    m[table::TIMER_AT] == table::WAITING
 }
 
 // The expiries since it was built.
@@ -133,7 +133,7 @@ fn bit(on: bool, n: u8) -> u8
 pub fn flags(present: bool, subscribed: bool, pending: bool) -> u8
     ensures { λ r. ⌜ r ≡ flags present subscribed pending ⌝ }
 {
-    bit(present, 1) + bit(subscribed, 2) + bit(pending, 4)
+    bit(present, table::PRESENT) + bit(subscribed, table::SUBSCRIBED) + bit(pending, table::PENDING)
 }
 
 // A cell's six octets.
@@ -142,9 +142,9 @@ fn write_cell(c: &mut [u8], name: usize, f: u8, n: usize)
     ensures { λ _. ⌜ now (c .exit) ≡ be16 name ++ (f ∷ 0 ∷ be16 n) ⌝ }
 {
     octets::put16(c, 0, name);
-    c[2] = f;
-    c[3] = 0;
-    octets::put16(c, 4, n);
+    c[table::FLAGS_AT] = f;
+    c[table::ZERO_AT] = 0;
+    octets::put16(c, table::SIZE_AT, n);
 }
 
 // Flags and length of the entry at a place.
@@ -152,9 +152,9 @@ pub fn put_cell(m: &mut [u8], k: usize, f: u8, n: usize)
     requires { ⌜ (length (now m) ≡ memoryLength) × (k < entryCount) × (n < 65536) ⌝ }
     ensures { λ _. ⌜ now (m .exit) ≡ putCell (now (m .entry)) k f n ⌝ }
 {
-    let at = 6 * k;
+    let at = table::CELL_LENGTH * k;
     let row = table::row_at(k);
-    write_cell(&mut m[at..at + 6], row.name, f, n);
+    write_cell(&mut m[at..at + table::CELL_LENGTH], row.name, f, n);
 }
 
 // A value in its own room: the room is lent on and filled, its tail zeroed.
@@ -189,9 +189,9 @@ pub fn store(m: &mut [u8], k: usize, v: &[u8])
 }
 
 // Other marks, presence and value as they were.
-pub fn remark(m: &mut [u8], k: usize, s: bool, q: bool)
+pub fn set_marks(m: &mut [u8], k: usize, s: bool, q: bool)
     requires { ⌜ (length (now m) ≡ memoryLength) × (k < entryCount) ⌝ }
-    ensures { λ _. ⌜ now (m .exit) ≡ remark (now (m .entry)) k s q ⌝ }
+    ensures { λ _. ⌜ now (m .exit) ≡ setMarks (now (m .entry)) k s q ⌝ }
 {
     let f = flags(present(m, k), s, q);
     let n = size(cell(m, k));
@@ -199,11 +199,11 @@ pub fn remark(m: &mut [u8], k: usize, s: bool, q: bool)
 }
 
 // The timer's two octets.
-pub fn set_clock(m: &mut [u8], waiting: u8, expiries: u8)
+pub fn set_timer(m: &mut [u8], waiting: u8, expiries: u8)
     requires { ⌜ length (now m) ≡ memoryLength ⌝ }
-    ensures { λ _. ⌜ now (m .exit) ≡ setClock (now (m .entry)) waiting expiries ⌝ }
+    ensures { λ _. ⌜ now (m .exit) ≡ setTimer (now (m .entry)) waiting expiries ⌝ }
 {
-    m[table::CLOCK_AT] = waiting;
+    m[table::TIMER_AT] = waiting;
     m[table::EXPIRIES_AT] = expiries;
 }
 
@@ -227,7 +227,7 @@ pub fn make_fresh(m: &mut [u8])
     octets::clear_from(m, 0);
     name_cells(m);
     let off = [0u8; 1];
-    put(m, table::GATE_ENABLED, 1, &off);
+    put(m, table::GATE_ENABLED, table::PRESENT, &off);
     let most = [0u8, 0, 0, 64];
-    put(m, table::SUPPORTED_LIST_MAX, 1, &most);
+    put(m, table::SUPPORTED_LIST_MAX, table::PRESENT, &most);
 }

@@ -5,6 +5,7 @@ ghost use mathlib.Core.Path.{_≡_};
 ghost use mathlib.Core.Bool.{true};
 ghost use lib.ListN.{length};
 ghost use Rattle.meaning.specs.Table.{memoryLength, entryCount};
+ghost use Rattle.meaning.specs.Wire.{notificationRoom};
 ghost use Rattle.meaning.specs.Memory.{sound};
 ghost use Rattle.meaning.specs.Calls.{reports, notification, cleared};
 ghost use Rattle.octets.specs.Writing.{Wrote};
@@ -31,7 +32,7 @@ fn with_entry(d: Due, m: &[u8], k: usize) -> Due
         return r;
     }
     r.values = d.values + 1;
-    r.octets = d.octets + 4 + memory::body(m, k).len();
+    r.octets = d.octets + wire::VALUE_HEAD + memory::body(m, k).len();
     r
 }
 
@@ -71,7 +72,7 @@ fn write_entry(m: &[u8], k: usize, values: bool, out: &mut [u8], at: usize) -> u
     if values {
         return at;
     }
-    records::write_failed(out, at, row.name, 3)
+    records::write_failed(out, at, row.name, wire::CAUSE_UNAVAILABLE)
 }
 
 // The records of one kind: the values, or the absent names.
@@ -90,10 +91,15 @@ fn write_kind(m: &[u8], values: bool, out: &mut [u8], at: usize) -> usize
 
 // A notification of what is due; the place after it.
 pub fn write(m: &[u8], d: Due, out: &mut [u8]) -> usize
-    requires { ⌜ (sound (now m) ≡ true) × (d ≡ dueOf (reports (now m) entryCount)) × (1600 ≤ length (now out)) ⌝ }
+    requires { ⌜ (sound (now m) ≡ true) × (d ≡ dueOf (reports (now m) entryCount)) × (notificationRoom ≤ length (now out)) ⌝ }
     ensures { λ r. ⌜ Wrote (now (out .entry)) 0 (notification (now (m .entry))) r (now (out .exit)) ⌝ }
 {
-    let head = records::write_head(out, 0, 3, 2 + d.octets + 3 * d.absent);
+    let head = records::write_head(
+        out,
+        0,
+        wire::TYPE_NOTIFY,
+        2 + d.octets + wire::ERROR_LENGTH * d.absent,
+    );
     let values = records::write_count(out, head, d.values);
     let count = write_kind(m, true, out, values);
     let absent = records::write_count(out, count, d.absent);
@@ -108,7 +114,7 @@ pub fn clear(m: &mut [u8])
     let mut k: usize = 0;
     while k < table::ENTRY_COUNT {
         let s = memory::subscribed(m, k);
-        memory::remark(m, k, s, false);
+        memory::set_marks(m, k, s, false);
         k += 1;
     }
 }

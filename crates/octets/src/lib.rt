@@ -5,7 +5,7 @@ ghost use mathlib.Core.Path.{_≡_};
 ghost use mathlib.Core.Bool.{false};
 ghost use mathlib.Core.List.{_++_};
 ghost use lib.ListN.{length, take};
-ghost use Rattle.meaning.specs.Octets.{at16, at32, be16, be32, splice, zeros, blank};
+ghost use Rattle.meaning.specs.Octets.{at16, at32, be16, splice, zeros, blank};
 ghost use Rattle.octets.specs.Writing.{Wrote};
 
 // An octet as a number.
@@ -40,15 +40,6 @@ pub fn put16(s: &mut [u8], at: usize, v: usize)
 {
     s[at] = (v / 256 % 256) as u8;
     s[at + 1] = (v % 256) as u8;
-}
-
-// A number written as four octets at a place.
-pub fn put32(s: &mut [u8], at: usize, v: usize)
-    requires { ⌜ (at + 4 ≤ length (now s)) × (v < 4294967296) ⌝ }
-    ensures { λ _. ⌜ now (s .exit) ≡ splice (now (s .entry)) at (be32 v) ⌝ }
-{
-    put16(s, at, v / 65536);
-    put16(s, at + 2, v % 65536);
 }
 
 // Zeros from a place to the end.

@@ -29,7 +29,7 @@ pub fn operation_at(list: &[u8], at: usize) -> Handed
     }
     let left = list.len() - at;
     let code = list[at];
-    if code == 1 {
+    if code == wire::CODE_CAPABILITIES {
         let op = Op::Capabilities;
         return Handed::Operation(op, at + 1);
     }
@@ -37,7 +37,7 @@ pub fn operation_at(list: &[u8], at: usize) -> Handed
         return Handed::Malformed;
     }
     let name = octets::get16(list, at + 1);
-    if code == 3 {
+    if code == wire::CODE_SET {
         if left < 5 {
             return Handed::Malformed;
         }
@@ -49,9 +49,9 @@ pub fn operation_at(list: &[u8], at: usize) -> Handed
         return Handed::Operation(op, at + 5 + size);
     }
     let op = match code {
-        2 => Op::Read(name),
-        4 => Op::Subscribe(name),
-        5 => Op::Unsubscribe(name),
+        wire::CODE_READ => Op::Read(name),
+        wire::CODE_SUBSCRIBE => Op::Subscribe(name),
+        wire::CODE_UNSUBSCRIBE => Op::Unsubscribe(name),
         _ => return Handed::Malformed,
     };
     Handed::Operation(op, at + 3)

@@ -4,6 +4,7 @@ ghost use Prim.Native.Nat.{_+_, _≤_, _<_};
 ghost use mathlib.Core.List.{[], _∷_};
 ghost use lib.ListN.{length};
 ghost use Rattle.meaning.specs.Octets.{be16};
+ghost use Rattle.meaning.specs.Wire.{namesLength, countMost, shortMost};
 ghost use Rattle.meaning.specs.Reply.{heldOctets, shortOctets, failedOctets, allNames};
 ghost use Rattle.octets.specs.Writing.{Wrote};
 
@@ -14,17 +15,17 @@ pub fn write_held(out: &mut [u8], at: usize, name: usize, value: &[u8]) -> usize
 {
     octets::put16(out, at, name);
     octets::put16(out, at + 2, value.len());
-    octets::append(out, at + 4, value)
+    octets::append(out, at + wire::VALUE_HEAD, value)
 }
 
 // A value of at most 255 octets: name (2), length (1), the value.
 pub fn write_short(out: &mut [u8], at: usize, name: usize, value: &[u8]) -> usize
-    requires { ⌜ (at + (3 + length (now value)) ≤ length (now out)) × (name < 65536) × (length (now value) ≤ 255) ⌝ }
+    requires { ⌜ (at + (3 + length (now value)) ≤ length (now out)) × (name < 65536) × (length (now value) ≤ shortMost) ⌝ }
     ensures { λ r. ⌜ Wrote (now (out .entry)) at (shortOctets (record { name = name; value = now (value .entry) })) r (now (out .exit)) ⌝ }
 {
     octets::put16(out, at, name);
     out[at + 2] = value.len() as u8;
-    octets::append(out, at + 3, value)
+    octets::append(out, at + wire::SHORT_HEAD, value)
 }
 
 // An error: name (2), cause (1).
@@ -34,7 +35,7 @@ pub fn write_failed(out: &mut [u8], at: usize, name: usize, cause: u8) -> usize
 {
     octets::put16(out, at, name);
     out[at + 2] = cause;
-    at + 3
+    at + wire::ERROR_LENGTH
 }
 
 // The head of an element: identifier (1), length (2).
@@ -44,28 +45,36 @@ pub fn write_head(out: &mut [u8], at: usize, id: u8, n: usize) -> usize
 {
     out[at] = id;
     octets::put16(out, at + 1, n);
-    at + 3
+    at + wire::ELEMENT_HEAD
 }
 
 // All 19 names in table order, each of 2 octets.
 pub fn write_names(out: &mut [u8], at: usize) -> usize
-    requires { ⌜ at + 38 ≤ length (now out) ⌝ }
+    requires { ⌜ at + namesLength ≤ length (now out) ⌝ }
     ensures { λ r. ⌜ Wrote (now (out .entry)) at allNames r (now (out .exit)) ⌝ }
 {
     let mut k: usize = 0;
     while k < table::ENTRY_COUNT {
         let row = table::row_at(k);
-        octets::put16(out, at + 2 * k, row.name);
+        octets::put16(out, at + wire::NAME_LENGTH * k, row.name);
         k += 1;
     }
-    at + 38
+    at + wire::NAMES_LENGTH
+}
+
+// One octet: a message's type, a count.
+pub fn write_octet(out: &mut [u8], at: usize, x: u8) -> usize
+    requires { ⌜ at + 1 ≤ length (now out) ⌝ }
+    ensures { λ r. ⌜ Wrote (now (out .entry)) at (x ∷ []) r (now (out .exit)) ⌝ }
+{
+    out[at] = x;
+    at + 1
 }
 
 // A count of records, one octet.
 pub fn write_count(out: &mut [u8], at: usize, count: usize) -> usize
-    requires { ⌜ (at + 1 ≤ length (now out)) × (count ≤ 255) ⌝ }
+    requires { ⌜ (at + 1 ≤ length (now out)) × (count ≤ countMost) ⌝ }
     ensures { λ r. ⌜ Wrote (now (out .entry)) at (count ∷ []) r (now (out .exit)) ⌝ }
 {
-    out[at] = count as u8;
-    at + 1
+    write_octet(out, at, count as u8)
 }

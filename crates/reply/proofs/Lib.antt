@@ -1,3 +1,3 @@
 -- Laws that the proofs of `reply` share.
 pub mod Parts
-pub mod Fronts
+pub mod Prefaces

@@ -23,7 +23,7 @@ use Rattle.tally.specs.Tallies as tallies
 use Rattle.tally.specs.Tallies.{readOctets, setOctets, elementLength, replyLength, tallyFits}
 use Rattle.tally.proofs.Lengths.{tally-fits, any-read, any-set, read-octets, set-octets, values-count, readErrors-count, updates-count, updateErrors-count, longUpdates-count, longUpdates-octets}
 use Rattle.section.specs.Kinds.{Values, ReadErrors, Updates, UpdateErrors, LongUpdates, order, section, recordsOf}
-use Rattle.reply.specs.Sections.{opening, further, longLength, front, piece, Ready, Fitting}
+use Rattle.reply.specs.Sections.{opening, secondCount, longLength, preface, piece, Ready, Fitting}
 
 -- ---- what is asked of a reply
 
@@ -87,19 +87,19 @@ long-parts (h ∷ l) = rw (ne-eqb (length (h ∷ l)) 0 (λ e. absurd (omega (ari
 
 module _ (r : Records) where
   read-pieces : element 0x71 (anyRead r) (readContents r) ≡ piece r Values ++ piece r ReadErrors
-  unfolding element readContents section front opening further be16 flat
+  unfolding element readContents section preface opening secondCount be16 flat
   read-pieces = rw (any-read r, read-octets r, values-count r, readErrors-count r) (go (r .values) (r .readErrors))
     where
       go : (v : List Held) (e : List Failed)
           → let c = length v ∷ flat heldOctets v ++ (length e ∷ flat failedOctets e) in
           let b = nonempty v || nonempty e in
-          element 0x71 b c ≡ (opening b 0x71 (length c) (length v) ++ flat heldOctets v) ++ (further b (length e) ++ flat failedOctets e)
+          element 0x71 b c ≡ (opening b 0x71 (length c) (length v) ++ flat heldOctets v) ++ (secondCount b (length e) ++ flat failedOctets e)
       go [] [] = refl
       go [] (x ∷ e) = refl
       go (h ∷ v) e = refl
 
   set-pieces : element 0x72 (anySet r) (setContents r) ≡ piece r Updates ++ (piece r UpdateErrors ++ piece r LongUpdates)
-  unfolding element setContents section front opening further longLength be16 flat
+  unfolding element setContents section preface opening secondCount longLength be16 flat
   set-pieces =
       rw (any-set r, set-octets r, updates-count r, updateErrors-count r, longUpdates-count r, longUpdates-octets r)
       (go (r .updates) (r .updateErrors) (r .longUpdates))
@@ -109,7 +109,7 @@ module _ (r : Records) where
           let b = nonempty u || (nonempty f || nonempty l) in
           element 0x72 b c
           ≡ (opening b 0x72 (length c) (length u) ++ flat shortOctets u)
-          ++ ((further b (length f) ++ flat failedOctets f)
+          ++ ((secondCount b (length f) ++ flat failedOctets f)
           ++ (cond (eqb (length l) 0) [] (be16 (length (flat heldOctets l))) ++ flat heldOctets l))
       go [] [] [] = refl
       go [] [] (x ∷ l) = rw (long-parts (x ∷ l)) refl

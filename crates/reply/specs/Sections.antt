@@ -6,6 +6,7 @@ use mathlib.Core.List.{List, [], _∷_, _++_}
 use lib.Dec.{eqb}
 use lib.ListN.{length}
 use Rattle.meaning.specs.Octets.{be16}
+use Rattle.meaning.specs.Wire.{elementStatus, elementUpdateResult, messageMost}
 use Rattle.meaning.specs.Memory.{sound}
 use Rattle.meaning.specs.Operation.{parse, isSome, orNone}
 use Rattle.meaning.specs.Step.{after, answers}
@@ -16,30 +17,30 @@ use Rattle.tally.specs.declared.Tally.{Tally}
 use Rattle.tally.specs.Tallies.{tallyOf, readOctets, setOctets, anyRead, anySet, tallyFits, Below}
 use Rattle.section.specs.Kinds.{Kind, Values, ReadErrors, Updates, UpdateErrors, LongUpdates, section, recordsOf}
 
--- ---- what stands before a kind's records, by the tally
+-- ---- the preface of a kind: what stands before its records, by the tally
 
 -- an element's identifier and length (2), and the count of its first records
 unfoldable pub opening : Bool → ℕ → ℕ → ℕ → List ℕ
 opening b id n count = cond b (id ∷ be16 n ++ (count ∷ [])) []
 
--- the count of further records
-unfoldable pub further : Bool → ℕ → List ℕ
-further b count = cond b (count ∷ []) []
+-- the count of the second records in an element
+unfoldable pub secondCount : Bool → ℕ → List ℕ
+secondCount b count = cond b (count ∷ []) []
 
 -- the length (2) of the long updates, only if there are any
 unfoldable pub longLength : Count → List ℕ
 longLength c = cond (eqb (c .count) 0) [] (be16 (c .octets))
 
-unfoldable pub front : Tally → Kind → List ℕ
-front t Values = opening (anyRead t) 0x71 (readOctets t) (t .values .count)
-front t ReadErrors = further (anyRead t) (t .«read_errors» .count)
-front t Updates = opening (anySet t) 0x72 (setOctets t) (t .updates .count)
-front t UpdateErrors = further (anySet t) (t .«update_errors» .count)
-front t LongUpdates = longLength (t .«long_updates»)
+unfoldable pub preface : Tally → Kind → List ℕ
+preface t Values = opening (anyRead t) elementStatus (readOctets t) (t .values .count)
+preface t ReadErrors = secondCount (anyRead t) (t .«read_errors» .count)
+preface t Updates = opening (anySet t) elementUpdateResult (setOctets t) (t .updates .count)
+preface t UpdateErrors = secondCount (anySet t) (t .«update_errors» .count)
+preface t LongUpdates = longLength (t .«long_updates»)
 
 -- a kind's records with what stands before them
 abbrev pub piece : Records → Kind → List ℕ
-piece r k = front (tallyOf r) k ++ section k r
+piece r k = preface (tallyOf r) k ++ section k r
 
 -- ---- where it begins
 
@@ -52,7 +53,7 @@ octetsOf t LongUpdates = t .«long_updates» .octets
 
 -- the octets of a kind's piece
 abbrev pub span : Tally → Kind → ℕ
-span t k = length (front t k) + octetsOf t k
+span t k = length (preface t k) + octetsOf t k
 
 -- the pieces follow one another from a place on
 unfoldable pub begins : Tally → ℕ → Kind → ℕ
@@ -69,7 +70,7 @@ abbrev pub Ready : List ℕ → List ℕ → List ℕ → Bool → Type 0
 Ready m list copy changed =
     (sound m ≡ true)
     × (isSome (parse list) ≡ true)
-    × (length list ≤ 2048)
+    × (length list ≤ messageMost)
     × (copy ≡ after m (orNone (parse list)))
     × (changed ≡ anyChange (answers m (orNone (parse list))))
 

@@ -6,6 +6,7 @@ ghost use mathlib.Core.Logic.{_≢_};
 ghost use mathlib.Core.Bool.{true};
 ghost use mathlib.Core.List.{_++_};
 ghost use lib.ListN.{length, drop};
+ghost use Rattle.meaning.specs.Wire.{elementCapability, countMost};
 ghost use Rattle.meaning.specs.Operation.{parse, orNone};
 ghost use Rattle.meaning.specs.Step.{after};
 ghost use Rattle.meaning.specs.Reply.{allNames, element, complete};
@@ -14,14 +15,14 @@ ghost use Rattle.octets.specs.Filling.{Apart, Filled};
 ghost use Rattle.tally.specs.Tallies.{tallyFits, Below};
 ghost use Rattle.section.specs.Kinds.{order, recordsOf};
 ghost use Rattle.section.specs.Places.{placeOf};
-ghost use Rattle.reply.specs.Sections.{opening, further, longLength, front, begins, Ready, Fitting};
+ghost use Rattle.reply.specs.Sections.{opening, secondCount, longLength, preface, begins, Ready, Fitting};
 use section::Places;
 use tally::Count;
 use tally::Tally;
 
 // The head of an element, where it is needed, and the count of its first records.
 fn write_opening(needed: bool, id: u8, n: usize, count: u32, out: &mut [u8], at: usize) -> usize
-    requires { ⌜ (needed ≡ true → n < 65536) × (count ≤ 255) × (at + length (opening needed id n count) ≤ length (now out)) ⌝ }
+    requires { ⌜ (needed ≡ true → n < 65536) × (count ≤ countMost) × (at + length (opening needed id n count) ≤ length (now out)) ⌝ }
     ensures { λ r. ⌜ Wrote (now (out .entry)) at (opening needed id n count) r (now (out .exit)) ⌝ }
 {
     if !needed {
@@ -31,10 +32,10 @@ fn write_opening(needed: bool, id: u8, n: usize, count: u32, out: &mut [u8], at:
     records::write_count(out, first, count as usize)
 }
 
-// The count of records further on in an element, where it is needed.
-fn write_further(needed: bool, count: u32, out: &mut [u8], at: usize) -> usize
-    requires { ⌜ (count ≤ 255) × (at + length (further needed count) ≤ length (now out)) ⌝ }
-    ensures { λ r. ⌜ Wrote (now (out .entry)) at (further needed count) r (now (out .exit)) ⌝ }
+// The count of the second records in an element, where it is needed.
+fn write_second_count(needed: bool, count: u32, out: &mut [u8], at: usize) -> usize
+    requires { ⌜ (count ≤ countMost) × (at + length (secondCount needed count) ≤ length (now out)) ⌝ }
+    ensures { λ r. ⌜ Wrote (now (out .entry)) at (secondCount needed count) r (now (out .exit)) ⌝ }
 {
     if !needed {
         return at;
@@ -54,23 +55,30 @@ fn write_longs(longs: Count, out: &mut [u8], at: usize) -> usize
     at + 2
 }
 
-// What stands before the records of each kind; where the records go. The tally tells how long each section is, and so
+// The prefaces, what stands before the records of each kind; where the records go. The tally tells how long each section is, and so
 // where the next begins.
-fn write_fronts(t: Tally, out: &mut [u8], at: usize) -> Places
-    requires { ⌜ Below 16777216 t × (tallyFits (length (now out)) t ≡ true) × Apart 0 order (begins t at) (front t) (length (now out)) ⌝ }
-    ensures { λ r. ⌜ Filled order (begins t at) (front t) (now (out .entry)) (placeOf r) (now (out .exit)) ⌝ }
+fn write_prefaces(t: Tally, out: &mut [u8], at: usize) -> Places
+    requires { ⌜ Below 16777216 t × (tallyFits (length (now out)) t ≡ true) × Apart 0 order (begins t at) (preface t) (length (now out)) ⌝ }
+    ensures { λ r. ⌜ Filled order (begins t at) (preface t) (now (out .entry)) (placeOf r) (now (out .exit)) ⌝ }
 {
     let reads = tally::any_read(t);
     let sets = tally::any_set(t);
     let n = tally::read_octets(t);
-    let values = write_opening(reads, 0x71, n, t.values.count, out, at);
+    let values = write_opening(reads, wire::ELEMENT_STATUS, n, t.values.count, out, at);
     let second = values + t.values.octets as usize;
-    let read_errors = write_further(reads, t.read_errors.count, out, second);
+    let read_errors = write_second_count(reads, t.read_errors.count, out, second);
     let third = read_errors + t.read_errors.octets as usize;
     let k = tally::set_octets(t);
-    let updates = write_opening(sets, 0x72, k, t.updates.count, out, third);
+    let updates = write_opening(
+        sets,
+        wire::ELEMENT_UPDATE_RESULT,
+        k,
+        t.updates.count,
+        out,
+        third,
+    );
     let fourth = updates + t.updates.octets as usize;
-    let update_errors = write_further(sets, t.update_errors.count, out, fourth);
+    let update_errors = write_second_count(sets, t.update_errors.count, out, fourth);
     let fifth = update_errors + t.update_errors.octets as usize;
     let long_updates = write_longs(t.long_updates, out, fifth);
     Places {
@@ -84,13 +92,13 @@ fn write_fronts(t: Tally, out: &mut [u8], at: usize) -> Places
 
 // Element 70, where the names are asked.
 fn write_capabilities(needed: bool, out: &mut [u8], at: usize) -> usize
-    requires { ⌜ at + length (element 0x70 needed allNames) ≤ length (now out) ⌝ }
-    ensures { λ r. ⌜ Wrote (now (out .entry)) at (element 0x70 needed allNames) r (now (out .exit)) ⌝ }
+    requires { ⌜ at + length (element elementCapability needed allNames) ≤ length (now out) ⌝ }
+    ensures { λ r. ⌜ Wrote (now (out .entry)) at (element elementCapability needed allNames) r (now (out .exit)) ⌝ }
 {
     if !needed {
         return at;
     }
-    let first = records::write_head(out, at, 0x70, 38);
+    let first = records::write_head(out, at, wire::ELEMENT_CAPABILITY, wire::NAMES_LENGTH);
     records::write_names(out, first)
 }
 
@@ -101,10 +109,10 @@ pub fn write(m: &[u8], list: &[u8], t: Tally, changed: bool, copy: &mut [u8], ou
     ensures { λ _. ⌜ now (copy .exit) ≡ after (now (m .entry)) (orNone (parse (now (list .entry)))) ⌝ }
     ensures { λ _. ⌜ now (out .exit) ≡ complete (recordsOf (now (m .entry)) (now (list .entry))) ++ drop (length (complete (recordsOf (now (m .entry)) (now (list .entry))))) (now (out .entry)) ⌝ }
 {
-    let names = records::write_count(out, 0, 2);
+    let names = records::write_octet(out, 0, wire::TYPE_COMPLETE);
     let capabilities = t.capabilities;
     let at = write_capabilities(capabilities, out, names);
-    let starts = write_fronts(t, out, at);
+    let starts = write_prefaces(t, out, at);
     octets::renew(copy, m, changed);
     section::write(list, starts, copy, out);
 }

@@ -11,7 +11,7 @@ use lib.Dec.{eqb, leb}
 use borrow.Author.Tests.{eqb-true, eq-eqb, ne-eqb, leb-true, le-leb, lt-leb}
 use Rattle.meaning.specs.Octets.{octet, at16, be16, splice, every, same}
 use Rattle.meaning.specs.Table.{rows, rowAt, adminBaseTime, adminControlListLength, adminControlList, adminCycleTime}
-use Rattle.meaning.specs.Block.{number, timeOk, entriesOf, eachOk, listOk, intervals, ratioOk, cycle, sumsOf, sums, joinedBlock, formAndFit, keeps, permits}
+use Rattle.meaning.specs.Block.{asNumber, timeOk, entriesOf, eachOk, listOk, intervals, ratioOk, cycle, sumsOf, sums, joinedBlock, formAndFit, keeps, permits}
 use Rattle.meaning.proofs.Lists.{be16-at16}
 use Rattle.meaning.proofs.Sums.{first-sum, second-sum, first-shown, second-shown}
 use Rattle.meaning.proofs.Tests.{and-left, and-right, and-both, every-at, alike, same-true, same-refl}
@@ -72,7 +72,7 @@ sums-spelt v b h o =
 
 pub record Fit (b c l r : List ℕ) : Type 0 where
   pub time : timeOk b ≡ true
-  pub held : eqb (number c) (length l / 7) ≡ true
+  pub held : eqb (asNumber c) (length l / 7) ≡ true
   pub whole : eqb (length l % 7) 0 ≡ true
   pub each : eachOk (entriesOf l) ≡ true
   pub fits : leb (intervals (entriesOf l)) (cycle r) ≡ true
@@ -85,8 +85,8 @@ module _ (b c l r : List ℕ) (hb : length b ≡ 10) (hc : length c ≡ 4) (hr :
   unfolding listOk
   fit-opened e =
       let f = sym (form-joined b c l r hb hc hr) ∙ e in
-      let n : number c ≡ length l / 7 = eqb-true _ _ (every-at _ 5 f) in
-      let k : number c ≤ 64 = leb-true _ _ (every-at _ 2 f) in
+      let n : asNumber c ≡ length l / 7 = eqb-true _ _ (every-at _ 5 f) in
+      let k : asNumber c ≤ 64 = leb-true _ _ (every-at _ 2 f) in
       let w : (eqb (length l % 7) 0 && eachOk (entriesOf l)) ≡ true = every-at _ 3 f in
       record {
         time = every-at _ 1 f;
@@ -106,7 +106,7 @@ module _ (b c l r : List ℕ) (hb : length b ≡ 10) (hc : length c ≡ 4) (hr :
       ∙ simp (
         le-leb 22 (22 + length l) (omega arith),
         f .time,
-        le-leb (number c) 64 (omega (arith, eqb-true (number c) (length l / 7) (f .held), f .most)),
+        le-leb (asNumber c) 64 (omega (arith, eqb-true (asNumber c) (length l / 7) (f .held), f .most)),
         f .whole,
         f .each,
         f .denominator,
@@ -117,12 +117,12 @@ module _ (b c l r : List ℕ) (hb : length b ≡ 10) (hc : length c ≡ 4) (hr :
 
   -- without what is known of the length and the denominator
   fit-tests : ratioOk r ≡ true → 1 ≤ length l / 7 → length l / 7 ≤ 64
-      → (timeOk b && (eqb (number c) (length l / 7) && (eqb (length l % 7) 0 && (eachOk (entriesOf l) && leb (intervals (entriesOf l)) (cycle r))))) ≡ formAndFit (joinedBlock b c l r)
+      → (timeOk b && (eqb (asNumber c) (length l / 7) && (eqb (length l % 7) 0 && (eachOk (entriesOf l) && leb (intervals (entriesOf l)) (cycle r))))) ≡ formAndFit (joinedBlock b c l r)
   fit-tests d least most =
       alike _ (formAndFit (joinedBlock b c l r))
       (λ e.
       let e₁ = and-right (timeOk b) _ e in
-      let e₂ = and-right (eqb (number c) (length l / 7)) _ e₁ in
+      let e₂ = and-right (eqb (asNumber c) (length l / 7)) _ e₁ in
       let e₃ = and-right (eqb (length l % 7) 0) _ e₂ in
       fit-closed record {
         time = and-left _ _ e;
@@ -139,7 +139,7 @@ module _ (b c l r : List ℕ) (hb : length b ≡ 10) (hc : length c ≡ 4) (hr :
       and-both (f .time) (and-both (f .held) (and-both (f .whole) (and-both (f .each) (f .fits)))))
 
   -- the same of what was found of each value
-  pub fit-found : {t e y : Bool} {n s : ℕ} → t ≡ timeOk b → n ≡ number c → e ≡ eachOk (entriesOf l) → s ≡ intervals (entriesOf l) → y ≡ leb s (cycle r)
+  pub fit-found : {t e y : Bool} {n s : ℕ} → t ≡ timeOk b → n ≡ asNumber c → e ≡ eachOk (entriesOf l) → s ≡ intervals (entriesOf l) → y ≡ leb s (cycle r)
       → ratioOk r ≡ true → 1 ≤ length l / 7 → length l / 7 ≤ 64
       → (t && (eqb n (length l / 7) && (eqb (length l % 7) 0 && (e && y)))) ≡ formAndFit (joinedBlock b c l r)
   fit-found ft fn fe fs fy d least most = rw (ft, fn, fe, fy, fs) (fit-tests d least most)
@@ -176,11 +176,11 @@ permitted-base b p =
     let h = permits-length (rowAt adminBaseTime) b p in
     (omega arith, every-at _ 2 p)
 
-pub permitted-count : (c : List ℕ) → permits (rowAt adminControlListLength) c ≡ true → (length c ≡ 4) × (number c ≤ 64)
+pub permitted-count : (c : List ℕ) → permits (rowAt adminControlListLength) c ≡ true → (length c ≡ 4) × (asNumber c ≤ 64)
 unfolding permits rowAt rows keeps
 permitted-count c p =
     let h = permits-length (rowAt adminControlListLength) c p in
-    (omega arith, leb-true _ _ (and-right (leb 0 (number c)) _ (every-at _ 2 p)))
+    (omega arith, leb-true _ _ (and-right (leb 0 (asNumber c)) _ (every-at _ 2 p)))
 
 pub permitted-list : (l : List ℕ) → permits (rowAt adminControlList) l ≡ true → (length l ≤ 448) × (listOk l ≡ true)
 unfolding permits rowAt rows keeps
@@ -198,22 +198,22 @@ module _ (b c l r : List ℕ) (pb : permits (rowAt adminBaseTime) b ≡ true) (p
   permitted-length = omega (arith, joined-length b c l r, permitted-base b pb .0, permitted-count c pc .0, permitted-ratio r pr .0)
 
   -- each keeps its rule, so form and fit is how they fit one another
-  fit-is : (leb 1 (length l / 7) && (eqb (number c) (length l / 7) && leb (intervals (entriesOf l)) (cycle r))) ≡ formAndFit (joinedBlock b c l r)
+  fit-is : (leb 1 (length l / 7) && (eqb (asNumber c) (length l / 7) && leb (intervals (entriesOf l)) (cycle r))) ≡ formAndFit (joinedBlock b c l r)
   unfolding every
   fit-is =
       let hb = permitted-base b pb in
       let hc = permitted-count c pc in
       let hr = permitted-ratio r pr in
-      rw (form-joined b c l r (hb .0) (hc .0) (hr .0), le-leb 22 (22 + length l) (omega arith), hb .1, le-leb (number c) 64 (hc .1), permitted-list l pl .1, hr .1)
-      (in-order (leb 1 (length l / 7)) (eqb (number c) (length l / 7)) (leb (intervals (entriesOf l)) (cycle r)))
+      rw (form-joined b c l r (hb .0) (hc .0) (hr .0), le-leb 22 (22 + length l) (omega arith), hb .1, le-leb (asNumber c) 64 (hc .1), permitted-list l pl .1, hr .1)
+      (in-order (leb 1 (length l / 7)) (eqb (asNumber c) (length l / 7)) (leb (intervals (entriesOf l)) (cycle r)))
 
   -- with no entry, with another number in 0005, and by the intervals where there is neither
   pub fit-none : length l / 7 < 1 → formAndFit (joinedBlock b c l r) ≡ false
   fit-none h = rw (lt-leb 1 (length l / 7) h) at (sym fit-is)
 
-  module _ {n : ℕ} (h : 1 ≤ length l / 7) (e : n ≡ number c) where
+  module _ {n : ℕ} (h : 1 ≤ length l / 7) (e : n ≡ asNumber c) where
     pub fit-unheld : n ≢ length l / 7 → formAndFit (joinedBlock b c l r) ≡ false
-    fit-unheld u = rw (le-leb 1 (length l / 7) h, ne-eqb (number c) (length l / 7) (λ p. u (e ∙ p))) at (sym fit-is)
+    fit-unheld u = rw (le-leb 1 (length l / 7) h, ne-eqb (asNumber c) (length l / 7) (λ p. u (e ∙ p))) at (sym fit-is)
 
     pub fit-held : n ≡ length l / 7 → formAndFit (joinedBlock b c l r) ≡ leb (intervals (entriesOf l)) (cycle r)
-    fit-held u = rw (le-leb 1 (length l / 7) h, eq-eqb (number c) (length l / 7) (sym e ∙ u)) at (sym fit-is)
+    fit-held u = rw (le-leb 1 (length l / 7) h, eq-eqb (asNumber c) (length l / 7) (sym e ∙ u)) at (sym fit-is)

@@ -21,6 +21,20 @@ pub enum Rule {
     Running,
 }
 
+// Octets of a block but for its list: the base time before it and its length, the cycle behind it.
+const BASE_LENGTH: usize = 10;
+
+const COUNT_END: usize = 14;
+
+const RATIO_LENGTH: usize = 8;
+
+const BLOCK_REST: usize = COUNT_END + RATIO_LENGTH;
+
+// Octets of the longest block, and of a commit's value.
+pub const BLOCK_MOST: usize = BLOCK_REST + values::LIST_MOST;
+
+pub const SUMS_LENGTH: usize = 4;
+
 // The two sums over a block.
 pub struct Sums {
     pub first: u16,
@@ -69,20 +83,20 @@ fn values_fit(base: &[u8], count: &[u8], list: &[u8], ratio: &[u8]) -> bool
     requires { ⌜ (length (now base) ≡ 10) × (length (now count) ≡ 4) × (length (now ratio) ≡ 8) ⌝ }
     ensures { λ r. ⌜ r ≡ formAndFit (joinedBlock (now (base .entry)) (now (count .entry)) (now (list .entry)) (now (ratio .entry))) ⌝ }
 {
-    let n = list.len() / 7;
+    let n = list.len() / values::ENTRY_LENGTH;
     if n < 1 {
         return false;
     }
-    if 64 < n {
+    if values::ENTRIES_MOST < n {
         return false;
     }
-    if !rules::ratio_ok(ratio) {
+    if !values::ratio_ok(ratio) {
         return false;
     }
-    let w = rules::walk(list);
-    let held = rules::number(count) == n as u64;
-    let whole = list.len() % 7 == 0;
-    rules::time_ok(base) & (held & (whole & (w.ok & rules::fits_cycle(w.sum, ratio))))
+    let w = values::walk(list);
+    let held = values::as_number(count) == n as u64;
+    let whole = list.len() % values::ENTRY_LENGTH == 0;
+    values::time_ok(base) & (held & (whole & (w.ok & values::fits_cycle(w.sum, ratio))))
 }
 
 // Form and fit of a block of any length.
@@ -90,10 +104,15 @@ pub fn form_and_fit(b: &[u8]) -> bool
     ensures { λ r. ⌜ r ≡ formAndFit (now (b .entry)) ⌝ }
 {
     let n = b.len();
-    if n < 22 {
+    if n < BLOCK_REST {
         return false;
     }
-    values_fit(&b[0..10], &b[10..14], &b[14..n - 8], &b[n - 8..n])
+    values_fit(
+        &b[0..BASE_LENGTH],
+        &b[BASE_LENGTH..COUNT_END],
+        &b[COUNT_END..n - RATIO_LENGTH],
+        &b[n - RATIO_LENGTH..n],
+    )
 }
 
 // Form and fit of the block that a base time and these values make, each permitted by its row. They keep their rules, so what
@@ -102,15 +121,15 @@ pub fn fit_together(count: &[u8], list: &[u8], ratio: &[u8]) -> bool
     requires { ⌜ (permits (rowAt adminControlListLength) (now count) ≡ true) × (permits (rowAt adminControlList) (now list) ≡ true) × (permits (rowAt adminCycleTime) (now ratio) ≡ true) ⌝ }
     ensures { λ r. ⌜ ((base : List ℕ) → permits (rowAt adminBaseTime) base ≡ true → r ≡ formAndFit (joinedBlock base (now (count .entry)) (now (list .entry)) (now (ratio .entry)))) ⌝ }
 {
-    let n = list.len() / 7;
+    let n = list.len() / values::ENTRY_LENGTH;
     if n < 1 {
         return false;
     }
-    if rules::number(count) != n as u64 {
+    if values::as_number(count) != n as u64 {
         return false;
     }
-    let sum = rules::intervals(list);
-    rules::fits_cycle(sum, ratio)
+    let sum = values::intervals(list);
+    values::fits_cycle(sum, ratio)
 }
 
 // Whether a value of a length that its row permits keeps a rule.
@@ -120,10 +139,10 @@ pub fn keeps(rule: Rule, v: &[u8]) -> bool
 {
     match rule {
         Rule::Free => true,
-        Rule::Within(least, most) => rules::within(v, least, most),
-        Rule::Time => rules::time_ok(v),
-        Rule::Entries => rules::list_ok(v),
-        Rule::Ratio => rules::ratio_ok(v),
+        Rule::Within(least, most) => values::within(v, least, most),
+        Rule::Time => values::time_ok(v),
+        Rule::Entries => values::list_ok(v),
+        Rule::Ratio => values::ratio_ok(v),
         Rule::Running => form_and_fit(v),
     }
 }
@@ -141,7 +160,7 @@ pub fn write_sums(s: Sums, out: &mut [u8])
 pub fn sums_agree(block: &[u8], value: &[u8]) -> bool
     ensures { λ r. ⌜ r ≡ (eqb (length (now (value .entry))) 4 && same (now (value .entry)) (sums (now (block .entry)))) ⌝ }
 {
-    if value.len() != 4 {
+    if value.len() != SUMS_LENGTH {
         return false;
     }
     let s = sums_of(block);

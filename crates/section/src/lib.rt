@@ -5,6 +5,7 @@ ghost use mathlib.Core.Path.{_≡_};
 ghost use mathlib.Core.Bool.{true};
 ghost use lib.ListN.{length};
 ghost use Rattle.meaning.specs.Table.{memoryLength, entryCount};
+ghost use Rattle.meaning.specs.Wire.{messageMost};
 ghost use Rattle.meaning.specs.Memory.{sound};
 ghost use Rattle.meaning.specs.Operation.{parse, isSome, orNone};
 ghost use Rattle.meaning.specs.Step.{shown, after};
@@ -12,7 +13,7 @@ ghost use Rattle.meaning.specs.Reply.{heldOctets};
 ghost use Rattle.operation.specs.Handing.{Inside};
 ghost use Rattle.octets.specs.Writing.{Wrote};
 ghost use Rattle.octets.specs.Filling.{fill, Apart, Filled};
-ghost use Rattle.command.specs.Answers.{Told};
+ghost use Rattle.command.specs.Answers.{InTable};
 ghost use Rattle.section.specs.Kinds.{order, sections};
 ghost use Rattle.section.specs.Places.{placeOf, shares};
 ghost use Rattle.section.specs.Knowing.{AreSums, Knows, Keeps};
@@ -47,7 +48,7 @@ fn kept(known: RunningSums, op: Op) -> RunningSums
     let Op::Set(name, _, _) = op else {
         return known;
     };
-    if name == 0x8001 {
+    if name == table::COMMIT_NAME {
         RunningSums::Unknown
     } else {
         known
@@ -97,7 +98,7 @@ fn write_value(
         return records::write_held(out, at, name, v);
     }
     let s = running_sums(m, known);
-    let mut sums = [0u8; 4];
+    let mut sums = [0u8; schedule::SUMS_LENGTH];
     schedule::write_sums(s, &mut sums);
     records::write_held(out, at, name, &sums)
 }
@@ -112,7 +113,7 @@ fn put(
     c: Places,
     out: &mut [u8],
 ) -> Places
-    requires { ⌜ (length (now m) ≡ memoryLength) × (length (now list) ≤ 2048) × Inside (length (now list)) op × Told a × Knows (now m) known × Apart 0 order (placeOf c) (shares (now m) (now list) op a) (length (now out)) ⌝ }
+    requires { ⌜ (length (now m) ≡ memoryLength) × (length (now list) ≤ messageMost) × Inside (length (now list)) op × InTable a × Knows (now m) known × Apart 0 order (placeOf c) (shares (now m) (now list) op a) (length (now out)) ⌝ }
     ensures { λ r. ⌜ Filled order (placeOf c) (shares (now (m .entry)) (now (list .entry)) op a) (now (out .entry)) (placeOf r) (now (out .exit)) ⌝ }
 {
     let name = operation::name_of(op);
@@ -131,7 +132,7 @@ fn put(
         }
         Answer::Update => {
             let v = &list[from..from + size];
-            if size <= 255 {
+            if size <= wire::SHORT_MOST {
                 r.updates = records::write_short(out, c.updates, name, v);
                 return r;
             }
@@ -149,7 +150,7 @@ fn put(
 // The records of all operations, each at the place of its kind. The copy is lent as the memory is, and holds afterwards what
 // the operations leave.
 pub fn write(list: &[u8], starts: Places, copy: &mut [u8], out: &mut [u8])
-    requires { ⌜ (sound (now copy) ≡ true) × (isSome (parse (now list)) ≡ true) × (length (now list) ≤ 2048) × Apart 0 order (placeOf starts) (sections (now copy) (now list)) (length (now out)) ⌝ }
+    requires { ⌜ (sound (now copy) ≡ true) × (isSome (parse (now list)) ≡ true) × (length (now list) ≤ messageMost) × Apart 0 order (placeOf starts) (sections (now copy) (now list)) (length (now out)) ⌝ }
     ensures { λ _. ⌜ now (copy .exit) ≡ after (now (copy .entry)) (orNone (parse (now (list .entry)))) ⌝ }
     ensures { λ _. ⌜ now (out .exit) ≡ fill order (placeOf starts) (sections (now (copy .entry)) (now (list .entry))) (now (out .entry)) ⌝ }
 {

@@ -7,7 +7,7 @@ use lib.Dec.{eqb, leb, ltb}
 use Rattle.meaning.specs.Octets.{octet, at16, blank, every, below, implies}
 use Rattle.meaning.specs.Table.{Row, rowAt, byPort, entryCount, gateEnabled, supportedListMax, commit}
 use Rattle.meaning.specs.Block.{permits}
-use Rattle.meaning.specs.Memory.{cell, room, isPresent, isSubscribed, isPending, size, flagLimit, present, clock, fourPresent, clockSound}
+use Rattle.meaning.specs.Memory.{cell, room, isPresent, isSubscribed, isPending, size, flagLimit, present, timer, fourPresent, timerSound}
 
 -- name, zero octet, flags, marks
 unfoldable pub cellSound : Row → List ℕ → Bool
@@ -43,5 +43,5 @@ acrossSound m =
     (present m gateEnabled
     ∷ present m supportedListMax
     ∷ implies (present m commit) (fourPresent m)
-    ∷ clockSound (clock m)
+    ∷ timerSound (timer m)
     ∷ [])

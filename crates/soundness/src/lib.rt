@@ -9,7 +9,7 @@ ghost use lib.Dec.{eqb};
 ghost use Rattle.meaning.specs.Octets.{part, blank};
 ghost use Rattle.meaning.specs.Table.{entryCount, memoryLength, rowAt, roomAt};
 ghost use Rattle.meaning.specs.Block.{permits};
-ghost use Rattle.meaning.specs.Memory.{cell, isPresent, size, clockSound, sound};
+ghost use Rattle.meaning.specs.Memory.{cell, isPresent, size, timerSound, sound};
 ghost use Rattle.soundness.specs.Fields.{cellSound, fieldsAt, tailAt, allFields, allTails, acrossSound};
 
 // Name, zero octet and flags of a cell: no other flag bit, and pending only with subscribed and on names set by the port.
@@ -23,7 +23,9 @@ fn cell_sound(k: usize, c: &[u8]) -> bool
     let pending = memory::is_pending(c);
     let subscribed = memory::is_subscribed(c);
     let port = table::by_port(owner);
-    named & ((c[3] == 0) & ((c[2] < 8) & (!pending | (subscribed & port))))
+    named
+        & ((c[table::ZERO_AT] == 0)
+            & ((c[table::FLAGS_AT] < table::FLAG_LIMIT) & (!pending | (subscribed & port))))
 }
 
 // A present value keeps its row, an absent one has length 0.
@@ -121,13 +123,13 @@ fn all_tails(m: &[u8]) -> bool
 }
 
 // The timer's octets: waiting with 0 to 4 expiries, or idle with none.
-fn clock_sound(waiting: u8, expiries: u8) -> bool
-    ensures { λ r. ⌜ r ≡ clockSound (waiting ∷ expiries ∷ []) ⌝ }
+fn timer_sound(waiting: u8, expiries: u8) -> bool
+    ensures { λ r. ⌜ r ≡ timerSound (waiting ∷ expiries ∷ []) ⌝ }
 {
-    if waiting == 1 {
-        expiries <= 4
+    if waiting == table::WAITING {
+        expiries <= wire::EXPIRIES_MOST
     } else {
-        (waiting == 0) & (expiries == 0)
+        (waiting == table::IDLE) & (expiries == 0)
     }
 }
 
@@ -140,7 +142,7 @@ fn across_sound(m: &[u8]) -> bool
     let most = memory::present(m, table::SUPPORTED_LIST_MAX);
     let runs = memory::present(m, table::COMMIT);
     let four = memory::four_present(m);
-    gate & (most & ((!runs | four) & clock_sound(m[table::CLOCK_AT], m[table::EXPIRIES_AT])))
+    gate & (most & ((!runs | four) & timer_sound(m[table::TIMER_AT], m[table::EXPIRIES_AT])))
 }
 
 // Whether octets of any length are sound port memory.

@@ -11,7 +11,9 @@ use schedule::Rule;
 // Where things stand in port memory: 19 cells of 6 octets, the timer's two octets, the bodies.
 pub const ENTRY_COUNT: usize = 19;
 
-pub const CLOCK_AT: usize = 114;
+pub const CELL_LENGTH: usize = 6;
+
+pub const TIMER_AT: usize = 114;
 
 pub const EXPIRIES_AT: usize = 115;
 
@@ -19,7 +21,28 @@ pub const BODIES_AT: usize = 116;
 
 pub const MEMORY_LENGTH: usize = 2100;
 
-// The places that rules name.
+// Where things stand in a cell, behind its name.
+pub const FLAGS_AT: usize = 2;
+
+pub const ZERO_AT: usize = 3;
+
+pub const SIZE_AT: usize = 4;
+
+// The flags, each a bit, and the first octet that has another bit.
+pub const PRESENT: u8 = 1;
+
+pub const SUBSCRIBED: u8 = 2;
+
+pub const PENDING: u8 = 4;
+
+pub const FLAG_LIMIT: u8 = 8;
+
+// What the timer's first octet holds.
+pub const IDLE: u8 = 0;
+
+pub const WAITING: u8 = 1;
+
+// The places that rules name, and the name of the last.
 pub const GATE_ENABLED: usize = 1;
 
 pub const ADMIN_BASE_TIME: usize = 2;
@@ -33,6 +56,11 @@ pub const ADMIN_CYCLE_TIME: usize = 5;
 pub const SUPPORTED_LIST_MAX: usize = 7;
 
 pub const COMMIT: usize = 18;
+
+pub const COMMIT_NAME: usize = 0x8001;
+
+// Where the room of the running block starts.
+pub const RUNNING_AT: usize = 1630;
 
 // Who sets a parameter.
 pub enum Owner {
@@ -71,7 +99,7 @@ pub fn row_at(k: usize) -> Row
     ensures { λ r. ⌜ (rowOf r ≡ rowAt k) × (r .start ≡ roomAt k) × (r .start + r .most ≤ memoryLength) ⌝ }
 {
     match k {
-        0 => as_row(0x0001, 8, 8, 116, Owner::Port, Rule::Free),
+        0 => as_row(0x0001, 8, 8, BODIES_AT, Owner::Port, Rule::Free),
         1 => as_row(0x0003, 1, 1, 124, Owner::Controller, Rule::Within(0, 1)),
         2 => as_row(0x0004, 10, 10, 125, Owner::Controller, Rule::Time),
         3 => as_row(0x0005, 4, 4, 135, Owner::Controller, Rule::Within(0, 64)),
@@ -89,8 +117,15 @@ pub fn row_at(k: usize) -> Row
         15 => as_row(0x00A2, 1, 1, 1372, Owner::Port, Rule::Within(1, 7)),
         16 => as_row(0x00A3, 1, 255, 1373, Owner::Port, Rule::Free),
         17 => as_row(0x00A4, 2, 2, 1628, Owner::Port, Rule::Free),
-        18 => as_row(0x8001, 29, 470, 1630, Owner::Controller, Rule::Running),
-        _ => as_row(0, 0, 0, 2100, Owner::Nobody, Rule::Free),
+        18 => as_row(
+            COMMIT_NAME,
+            29,
+            470,
+            RUNNING_AT,
+            Owner::Controller,
+            Rule::Running,
+        ),
+        _ => as_row(0, 0, 0, MEMORY_LENGTH, Owner::Nobody, Rule::Free),
     }
 }
 
@@ -117,8 +152,8 @@ pub fn place_of(name: usize) -> usize
         0x00A2 => 15,
         0x00A3 => 16,
         0x00A4 => 17,
-        0x8001 => 18,
-        _ => 19,
+        COMMIT_NAME => COMMIT,
+        _ => ENTRY_COUNT,
     }
 }
 

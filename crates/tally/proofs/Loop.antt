@@ -23,7 +23,7 @@ use Rattle.operation.proofs.Handed.{the-type}
 use Rattle.operation.proofs.Turns.{HandsOut, inside-value}
 use Rattle.command.specs.declared.Answer.{Answer}
 use Rattle.command.specs.declared.Answer.the-variants.{Names, Value, ReadError, Update, UpdateError, Silent}
-use Rattle.command.specs.Answers.{answerOf, Told, mayChange, anyChange, Tells}
+use Rattle.command.specs.Answers.{answerOf, InTable, mayChange, anyChange, TellsChange}
 use Rattle.command.proofs.Shown.{shown-short}
 use Rattle.command.proofs.Walk.{Under, rest, under-start, under-end, under-ahead, under-rest, under-turn}
 use Rattle.tally.specs.declared.Tally.{Tally}
@@ -43,7 +43,7 @@ none-light : (0 ≤ 4096) × (0 ≤ 4096)
 none-light = (omega arith, omega arith)
 
 -- the record of one answer, where the list has at most 2,048 octets
-pub told-light : (m s : List ℕ) (o : Op) (a : Answer) → length s ≤ 2048 → Inside (length s) o → Told a → Light (recordOf (answerOf m s o a))
+pub told-light : (m s : List ℕ) (o : Op) (a : Answer) → length s ≤ 2048 → Inside (length s) o → InTable a → Light (recordOf (answerOf m s o a))
 unfolding answerOf recordOf flat
 told-light m s o Names h i t = record { values = none-light; readErrors = none-light; updates = none-light; updateErrors = none-light; longUpdates = none-light }
 told-light m s o (Value k) h i t =
@@ -100,7 +100,7 @@ module _ (m list copy : List ℕ) (t : Tally) (changed : Bool) (at : ℕ) (u : C
       )
 
   pub counting-turn : (o : Op) (next : ℕ) → h ≡ Operation o next → length list ≤ 2048 → (copy′ : List ℕ) (a : Answer) (t′ : Tally) (b : Bool)
-      → copy′ ≡ step copy (opOf list o) → answerOf copy′ list o a ≡ answer copy (opOf list o) → Told a → Adds copy′ t o a t′ → Tells a b
+      → copy′ ≡ step copy (opOf list o) → answerOf copy′ list o a ≡ answer copy (opOf list o) → InTable a → Adds copy′ t o a t′ → TellsChange a b
       → Counting m list copy′ t′ (changed || b) next
   unfolding records gathered answers anyChange
   counting-turn o next e long copy′ a t′ b q p told adds tells =

@@ -6,6 +6,7 @@ use mathlib.Core.List.{List, [], _∷_}
 use lib.ListN.{length}
 use lib.Dec.{eqb, leb}
 use Rattle.meaning.specs.Octets.{flat, every}
+use Rattle.meaning.specs.Wire.{namesLength, replyMost, countMost}
 use Rattle.meaning.specs.Reply.{Records, recordOf, heldOctets, shortOctets, failedOctets}
 use Rattle.operation.specs.declared.Op.{Op}
 use Rattle.operation.specs.Handing.{Inside}
@@ -78,16 +79,16 @@ unfoldable pub elementLength : Bool → ℕ → ℕ
 elementLength b n = cond b (3 + n) 0
 
 unfoldable pub replyLength : Tally → ℕ
-replyLength t = 1 + elementLength (t .capabilities) 38 + elementLength (anyRead t) (readOctets t) + elementLength (anySet t) (setOctets t)
+replyLength t = 1 + elementLength (t .capabilities) namesLength + elementLength (anyRead t) (readOctets t) + elementLength (anySet t) (setOctets t)
 
 -- a reply of this tally fits a room of n octets
 unfoldable pub tallyFits : ℕ → Tally → Bool
 tallyFits n t =
     every
     (leb (replyLength t) n
-    ∷ leb (replyLength t) 4096
-    ∷ leb (t .values .count) 255
-    ∷ leb (t .«read_errors» .count) 255
-    ∷ leb (t .updates .count) 255
-    ∷ leb (t .«update_errors» .count) 255
+    ∷ leb (replyLength t) replyMost
+    ∷ leb (t .values .count) countMost
+    ∷ leb (t .«read_errors» .count) countMost
+    ∷ leb (t .updates .count) countMost
+    ∷ leb (t .«update_errors» .count) countMost
     ∷ [])

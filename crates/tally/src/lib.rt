@@ -5,12 +5,13 @@ ghost use mathlib.Core.Path.{_≡_};
 ghost use mathlib.Core.Bool.{true};
 ghost use lib.ListN.{length};
 ghost use Rattle.meaning.specs.Table.{memoryLength, entryCount};
+ghost use Rattle.meaning.specs.Wire.{messageMost, replyMost};
 ghost use Rattle.meaning.specs.Memory.{sound};
 ghost use Rattle.meaning.specs.Operation.{parse, isSome, orNone};
 ghost use Rattle.meaning.specs.Step.{shown, after, answers};
 ghost use Rattle.meaning.specs.Calls.{records};
 ghost use Rattle.operation.specs.Handing.{Inside};
-ghost use Rattle.command.specs.Answers.{Told, anyChange};
+ghost use Rattle.command.specs.Answers.{InTable, anyChange};
 ghost use Rattle.tally.specs.Tallies.{grown, tallyOf, Below, Adds, anyRead, anySet, readOctets, setOctets, elementLength, replyLength, tallyFits};
 use command::Answer;
 use operation::Handed;
@@ -40,7 +41,7 @@ pub struct Taken {
 
 // One record more, of so many octets.
 fn one_more(c: Count, octets: usize) -> Count
-    requires { ⌜ (c .count ≤ 16777216) × (c .octets ≤ 16777216) × (octets ≤ 4096) ⌝ }
+    requires { ⌜ (c .count ≤ 16777216) × (c .octets ≤ 16777216) × (octets ≤ replyMost) ⌝ }
     ensures { λ r. ⌜ r ≡ grown c 1 octets ⌝ }
 {
     Count {
@@ -55,14 +56,14 @@ fn shown_length(m: &[u8], k: usize) -> usize
     ensures { λ r. ⌜ (r ≡ length (shown (now (m .entry)) k)) × (r ≤ 470) ⌝ }
 {
     if k == table::COMMIT {
-        return 4;
+        return schedule::SUMS_LENGTH;
     }
     memory::body(m, k).len()
 }
 
 // A tally and the record of one answer more, to an operation.
 fn add(t: Tally, m: &[u8], op: Op, a: Answer) -> Tally
-    requires { ⌜ (length (now m) ≡ memoryLength) × Below 16777216 t × Inside 2048 op × Told a ⌝ }
+    requires { ⌜ (length (now m) ≡ memoryLength) × Below 16777216 t × Inside messageMost op × InTable a ⌝ }
     ensures { λ r. ⌜ Adds (now (m .entry)) t op a r ⌝ }
 {
     let mut r = t;
@@ -73,28 +74,28 @@ fn add(t: Tally, m: &[u8], op: Op, a: Answer) -> Tally
         }
         Answer::Value(k) => {
             let c = t.values;
-            r.values = one_more(c, 4 + shown_length(m, k as usize));
+            r.values = one_more(c, wire::VALUE_HEAD + shown_length(m, k as usize));
             r
         }
         Answer::ReadError(_) => {
             let c = t.read_errors;
-            r.read_errors = one_more(c, 3);
+            r.read_errors = one_more(c, wire::ERROR_LENGTH);
             r
         }
         Answer::Update => {
             let size = operation::size_of(op);
-            if size <= 255 {
+            if size <= wire::SHORT_MOST {
                 let c = t.updates;
-                r.updates = one_more(c, 3 + size);
+                r.updates = one_more(c, wire::SHORT_HEAD + size);
                 return r;
             }
             let c = t.long_updates;
-            r.long_updates = one_more(c, 4 + size);
+            r.long_updates = one_more(c, wire::VALUE_HEAD + size);
             r
         }
         Answer::UpdateError(_) => {
             let c = t.update_errors;
-            r.update_errors = one_more(c, 3);
+            r.update_errors = one_more(c, wire::ERROR_LENGTH);
             r
         }
         Answer::Silent => r,
@@ -103,7 +104,7 @@ fn add(t: Tally, m: &[u8], op: Op, a: Answer) -> Tally
 
 // The tally of a whole list of operations. The copy is filled from the memory and holds afterwards what they leave.
 pub fn take(m: &[u8], list: &[u8], copy: &mut [u8]) -> Taken
-    requires { ⌜ (sound (now m) ≡ true) × (isSome (parse (now list)) ≡ true) × (length (now list) ≤ 2048) × (length (now copy) ≡ memoryLength) ⌝ }
+    requires { ⌜ (sound (now m) ≡ true) × (isSome (parse (now list)) ≡ true) × (length (now list) ≤ messageMost) × (length (now copy) ≡ memoryLength) ⌝ }
     ensures { λ r. ⌜ r .tally ≡ tallyOf (records (now (m .entry)) (orNone (parse (now (list .entry))))) ⌝ }
     ensures { λ r. ⌜ Below 16777216 (r .tally) ⌝ }
     ensures { λ _. ⌜ now (copy .exit) ≡ after (now (m .entry)) (orNone (parse (now (list .entry)))) ⌝ }
@@ -179,7 +180,7 @@ fn element_length(needed: bool, n: usize) -> usize
     requires { ⌜ n ≤ 67108864 ⌝ }
     ensures { λ r. ⌜ (r ≡ elementLength needed n) × (r ≤ 67108867) ⌝ }
 {
-    if needed { 3 + n } else { 0 }
+    if needed { wire::ELEMENT_HEAD + n } else { 0 }
 }
 
 // Octets of the whole reply.
@@ -187,18 +188,19 @@ pub fn reply_length(t: Tally) -> usize
     requires { ⌜ Below 16777216 t ⌝ }
     ensures { λ r. ⌜ r ≡ replyLength t ⌝ }
 {
-    let names = element_length(t.capabilities, 38);
+    let names = element_length(t.capabilities, wire::NAMES_LENGTH);
     let reads = element_length(any_read(t), read_octets(t));
     let sets = element_length(any_set(t), set_octets(t));
     1 + names + reads + sets
 }
 
-// Whether a reply of n octets fits its room and 4,096, and no count is over 255.
+// Whether a reply of n octets fits its room and is no longer than any may be, and no count is over what its octet can tell.
 pub fn fits(t: Tally, n: usize, room: usize) -> bool
     requires { ⌜ n ≡ replyLength t ⌝ }
     ensures { λ r. ⌜ r ≡ tallyFits room t ⌝ }
 {
-    let sets = (t.updates.count <= 255) & (t.update_errors.count <= 255);
-    let counts = (t.values.count <= 255) & ((t.read_errors.count <= 255) & sets);
-    (n <= room) & ((n <= 4096) & counts)
+    let sets = (t.updates.count <= wire::COUNT_MOST) & (t.update_errors.count <= wire::COUNT_MOST);
+    let counts = (t.values.count <= wire::COUNT_MOST)
+        & ((t.read_errors.count <= wire::COUNT_MOST) & sets);
+    (n <= room) & ((n <= wire::REPLY_MOST) & counts)
 }

@@ -9,7 +9,7 @@ use Rattle.meaning.specs.Octets.{splice}
 use Rattle.meaning.specs.Calls as calls
 use Rattle.endpoint.specs.Outcomes.{numberOf, lengthOf, Gives}
 use Rattle.endpoint.specs.declared.Outcome.{Outcome}
-use Rattle.endpoint.specs.declared.Outcome.the-variants.{Done, MemoryUnsound, MessageEmpty, MessageTooLong, TypeUnknown, LengthWrong, OperationMalformed, NoRoom, Idle, NothingPending, AlreadyWaiting, RoomTooSmall, NotPermitted, SendAgain, GivenUp}
+use Rattle.endpoint.specs.declared.Outcome.the-variants.{Done, MemoryUnsound, MessageEmpty, MessageTooLong, TypeUnknown, LengthWrong, OperationMalformed, ReplyDoesNotFit, Idle, NothingPending, AlreadyWaiting, NotificationRoomTooSmall, NotPermitted, SendAgain, GivenUp}
 use Rattle.text.specs.Lines.{line}
 use Rattle.text.specs.Answers.{lineOf, answerLine, Answers}
 use Rattle.text.proofs.Writes.{line-short}
@@ -23,11 +23,11 @@ number-short MessageTooLong = omega arith
 number-short TypeUnknown = omega arith
 number-short LengthWrong = omega arith
 number-short OperationMalformed = omega arith
-number-short NoRoom = omega arith
+number-short ReplyDoesNotFit = omega arith
 number-short Idle = omega arith
 number-short NothingPending = omega arith
 number-short AlreadyWaiting = omega arith
-number-short RoomTooSmall = omega arith
+number-short NotificationRoomTooSmall = omega arith
 number-short NotPermitted = omega arith
 number-short SendAgain = omega arith
 number-short GivenUp = omega arith

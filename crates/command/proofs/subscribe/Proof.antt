@@ -1,6 +1,6 @@
 -- `command::subscribe` meets its contract.
 use borrow.Author.Needs.{needs}
-use Rattle.meaning.specs.Memory.{remark, pending}
+use Rattle.meaning.specs.Memory.{setMarks, pending}
 use Rattle.command.proofs.Sets.{subscribe-listed, subscribe-unlisted}
 use Rattle.command.proofs.subscribe.Statement.{statement}
 use Rattle.command.proofs.subscribe.Tie as tie
@@ -11,8 +11,8 @@ place-of-requires c κs = search needs
 pending-requires : tie.Need-pending-requires
 pending-requires c κs = search needs
 
-remark-requires : tie.Need-remark-requires
-remark-requires c κs = search needs
+set-marks-requires : tie.Need-set-marks-requires
+set-marks-requires c κs = search needs
 
 same-length : tie.Need-same-length
 same-length c = search needs
@@ -21,7 +21,7 @@ returns : tie.Need-returns
 returns c =
     let p = c .before .before .before .before .before .before in
     let a = p .before .before .before .args in
-    subscribe-listed (a .m .now) (a .name) _ (p .before .place-of .ensures) (p .if1 .taken) (c .before .before .before .before .pending .ensures) (c .before .before .remark .ensures)
+    subscribe-listed (a .m .now) (a .name) _ (p .before .place-of .ensures) (p .if1 .taken) (c .before .before .before .before .pending .ensures) (c .before .before .set-marks .ensures)
 
 returns-2 : tie.Need-returns-2
 returns-2 c =
@@ -31,4 +31,4 @@ returns-2 c =
 pub subscribe-spec : {M : Type 1} → statement M
 subscribe-spec =
     tie.close
-    (tie.spec place-of-requires pending-requires remark-requires same-length returns returns-2)
+    (tie.spec place-of-requires pending-requires set-marks-requires same-length returns returns-2)

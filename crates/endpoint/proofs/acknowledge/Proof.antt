@@ -3,12 +3,12 @@ use mathlib.Core.Path.{_≡_, refl, sym, _∙_}
 use mathlib.Core.Bool.{true}
 use mathlib.Core.List.{[], _∷_}
 use borrow.Author.Needs.{needs}
-use Rattle.meaning.specs.Memory.{waiting, setClock}
+use Rattle.meaning.specs.Memory.{waiting, setTimer}
 use Rattle.meaning.proofs.Tests.{denied, affirmed}
 use Rattle.command.proofs.Sets.{long-of}
 use Rattle.endpoint.specs.Outcomes.{numberOf, lengthOf}
-use Rattle.endpoint.specs.declared.Outcome.the-variants.{Idle, NoRoom}
-use Rattle.endpoint.proofs.Exits.{gives-told, gives-done, acknowledgement-8, acknowledgement-7, acknowledgement-fits, first-set}
+use Rattle.endpoint.specs.declared.Outcome.the-variants.{Idle, ReplyDoesNotFit}
+use Rattle.endpoint.proofs.Exits.{gives-number, gives-done, acknowledgement-8, acknowledgement-7, acknowledgement-fits, first-set}
 use Rattle.endpoint.proofs.acknowledge.Statement.{statement}
 use Rattle.endpoint.proofs.acknowledge.Tie as tie
 
@@ -25,7 +25,7 @@ returns : tie.Need-returns
 unfolding numberOf lengthOf
 returns c =
     let a = c .before .before .before .before .before .args in
-    gives-told (a .memory .now) (a .room .now) 8 Idle (acknowledgement-8 (a .memory .now) (a .room .now) (sym (c .before .waiting .ensures) ∙ denied _ (c .if1 .taken))) refl refl
+    gives-number (a .memory .now) (a .room .now) 8 Idle (acknowledgement-8 (a .memory .now) (a .room .now) (sym (c .before .waiting .ensures) ∙ denied _ (c .if1 .taken))) refl refl
 
 same-length-2 : tie.Need-same-length-2
 same-length-2 c = search needs
@@ -34,13 +34,13 @@ returns-2 : tie.Need-returns-2
 unfolding numberOf lengthOf
 returns-2 c =
     let a = c .before .before .before .before .before .before .args in
-    gives-told (a .memory .now) (a .room .now) 7 NoRoom (acknowledgement-7 (a .memory .now) (a .room .now) (waits (c .before)) (c .if2 .taken)) refl refl
+    gives-number (a .memory .now) (a .room .now) 7 ReplyDoesNotFit (acknowledgement-7 (a .memory .now) (a .room .now) (waits (c .before)) (c .if2 .taken)) refl refl
 
 slice-write-room : tie.Need-slice-write-room
 slice-write-room c = search needs
 
-set-clock-requires : tie.Need-set-clock-requires
-set-clock-requires c κs = long-of _ (c .before .before .before .before .before .before .before .pre)
+set-timer-requires : tie.Need-set-timer-requires
+set-timer-requires c κs = long-of _ (c .before .before .before .before .before .before .before .pre)
 
 same-length-3 : tie.Need-same-length-3
 same-length-3 c = search needs
@@ -52,7 +52,7 @@ returns-3 : tie.Need-returns-3
 returns-3 c =
     let a = c .before .before .before .before .before .before .before .before .before .before .args in
     let k = c .before .before .before .before in
-    gives-done (5 ∷ []) (setClock (a .memory .now) 0 0) (a .room .now) 1 (acknowledgement-fits (a .memory .now) (a .room .now) (waits (k .before)) (k .if2 .left)) refl (c .before .before .set-clock .ensures) (first-set (a .room .now) 5 (k .if2 .left))
+    gives-done (5 ∷ []) (setTimer (a .memory .now) 0 0) (a .room .now) 1 (acknowledgement-fits (a .memory .now) (a .room .now) (waits (k .before)) (k .if2 .left)) refl (c .before .before .set-timer .ensures) (first-set (a .room .now) 5 (k .if2 .left))
 
 pub acknowledge-spec : {M : Type 1} → statement M
 acknowledge-spec =
@@ -64,7 +64,7 @@ acknowledge-spec =
     same-length-2
     returns-2
     slice-write-room
-    set-clock-requires
+    set-timer-requires
     same-length-3
     same-length-4
     returns-3)

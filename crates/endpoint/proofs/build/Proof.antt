@@ -7,7 +7,7 @@ use mathlib.Core.Bool.{true, false}
 use mathlib.Core.List.{List}
 use borrow.Author.Needs.{needs}
 use Rattle.meaning.specs.Table.{entryCount}
-use Rattle.meaning.specs.Memory.{setClock, sound, waiting}
+use Rattle.meaning.specs.Memory.{setTimer, sound, waiting}
 use Rattle.meaning.specs.Calls.{notification, cleared}
 use Rattle.meaning.proofs.Timer.{build-does}
 use Rattle.meaning.proofs.Tests.{denied, affirmed}
@@ -16,8 +16,8 @@ use Rattle.meaning.proofs.Numbers.{build-1, build-11, build-10}
 use Rattle.records.proofs.Pieces.{at-start}
 use Rattle.notification.proofs.Reported.{due-small, none-counted, some-counted}
 use Rattle.endpoint.specs.Outcomes.{numberOf, lengthOf}
-use Rattle.endpoint.specs.declared.Outcome.the-variants.{MemoryUnsound, RoomTooSmall, AlreadyWaiting, NothingPending}
-use Rattle.endpoint.proofs.Exits.{gives-done, gives-told, build-nothing}
+use Rattle.endpoint.specs.declared.Outcome.the-variants.{MemoryUnsound, NotificationRoomTooSmall, AlreadyWaiting, NothingPending}
+use Rattle.endpoint.proofs.Exits.{gives-done, gives-number, build-nothing}
 use Rattle.endpoint.proofs.build.Statement.{statement}
 use Rattle.endpoint.proofs.build.Tie as tie
 
@@ -37,7 +37,7 @@ returns : tie.Need-returns
 unfolding numberOf lengthOf
 returns c =
     let a = c .before .before .before .before .before .args in
-    gives-told (a .memory .now) (a .room .now) 1 MemoryUnsound (build-1 (a .memory .now) (a .room .now) (sym (c .before .sound .ensures) ∙ denied _ (c .if1 .taken))) refl refl
+    gives-number (a .memory .now) (a .room .now) 1 MemoryUnsound (build-1 (a .memory .now) (a .room .now) (sym (c .before .sound .ensures) ∙ denied _ (c .if1 .taken))) refl refl
 
 same-length-2 : tie.Need-same-length-2
 same-length-2 c = search needs
@@ -46,7 +46,7 @@ returns-2 : tie.Need-returns-2
 unfolding numberOf lengthOf
 returns-2 c =
     let a = c .before .before .before .before .before .before .args in
-    gives-told (a .memory .now) (a .room .now) 11 RoomTooSmall (build-11 (a .memory .now) (a .room .now) (tested (c .before)) (c .if2 .taken)) refl refl
+    gives-number (a .memory .now) (a .room .now) 11 NotificationRoomTooSmall (build-11 (a .memory .now) (a .room .now) (tested (c .before)) (c .if2 .taken)) refl refl
 
 waiting-requires : tie.Need-waiting-requires
 waiting-requires c κs = opened _ (tested (c .before .before)) .long
@@ -58,7 +58,7 @@ returns-3 : tie.Need-returns-3
 unfolding numberOf lengthOf
 returns-3 c =
     let a = c .before .before .before .before .before .before .before .before .before .args in
-    gives-told (a .memory .now) (a .room .now) 10 AlreadyWaiting (build-10 (a .memory .now) (a .room .now) (tested (c .before .before .before .before)) (c .before .before .before .if2 .left) (sym (c .before .waiting .ensures) ∙ c .if3 .taken)) refl refl
+    gives-number (a .memory .now) (a .room .now) 10 AlreadyWaiting (build-10 (a .memory .now) (a .room .now) (tested (c .before .before .before .before)) (c .before .before .before .if2 .left) (sym (c .before .waiting .ensures) ∙ c .if3 .taken)) refl refl
 
 count-requires : tie.Need-count-requires
 count-requires c κs = opened _ (tested (c .before .before .before .before .before)) .long
@@ -79,7 +79,7 @@ returns-4 c =
     let n = c .before .before .count in
     let k = c .before .before .before .before in
     let a = k .before .before .before .before .before .before .before .before .before .args in
-    gives-told (a .memory .now) (a .room .now) 9 NothingPending
+    gives-number (a .memory .now) (a .room .now) 9 NothingPending
     (build-nothing (a .memory .now) (a .room .now) (tested (k .before .before .before .before)) (k .before .before .before .if2 .left) (idle k) (none-counted (a .memory .now) (n .result) (n .ensures) (c .if4 .taken))) refl refl
 
 write-requires : tie.Need-write-requires
@@ -90,8 +90,8 @@ write-requires c κs =
 clear-requires : tie.Need-clear-requires
 clear-requires c κs = opened _ (tested (c .before .before .before .before .before .before .before .before .before .before .before .before .before .before)) .long
 
-set-clock-requires : tie.Need-set-clock-requires
-set-clock-requires c κs = c .before .before .before .clear .kept .0 ∙ opened _ (tested (c .before .before .before .before .before .before .before .before .before .before .before .before .before .before .before .before .before .before)) .long
+set-timer-requires : tie.Need-set-timer-requires
+set-timer-requires c κs = c .before .before .before .clear .kept .0 ∙ opened _ (tested (c .before .before .before .before .before .before .before .before .before .before .before .before .before .before .before .before .before .before)) .long
 
 same-length-5 : tie.Need-same-length-5
 same-length-5 c = search needs
@@ -106,9 +106,9 @@ returns-5 c =
     let a = k .before .before .before .before .before .before .before .before .before .args in
     let m = a .memory .now in
     let w = c .before .before .before .before .before .before .before .before .before .before .write .ensures in
-    gives-done (notification m) (setClock (cleared entryCount m) 1 0) (a .room .now) _
+    gives-done (notification m) (setTimer (cleared entryCount m) 1 0) (a .room .now) _
     (build-does m (a .room .now) (tested (k .before .before .before .before)) (k .before .before .before .if2 .left) (idle k) (some-counted m (n .result) (n .ensures) (c .before .before .before .before .before .before .before .before .before .before .before .before .before .if4 .left)))
-    (w .0 ∙ zero-add _) (c .before .before .set-clock .ensures ∙ ap (λ (s : List ℕ). setClock s 1 0) (c .before .before .before .before .before .before .clear .ensures)) (w .1 ∙ at-start (a .room .now) (notification m))
+    (w .0 ∙ zero-add _) (c .before .before .set-timer .ensures ∙ ap (λ (s : List ℕ). setTimer s 1 0) (c .before .before .before .before .before .before .clear .ensures)) (w .1 ∙ at-start (a .room .now) (notification m))
 
 pub build-spec : {M : Type 1} → statement M
 build-spec =
@@ -128,7 +128,7 @@ build-spec =
     returns-4
     write-requires
     clear-requires
-    set-clock-requires
+    set-timer-requires
     same-length-5
     same-length-6
     returns-5)

@@ -5,14 +5,14 @@ use mathlib.Core.Path.{_≡_, refl, sym, _∙_}
 use mathlib.Core.Bool.{true}
 use mathlib.Core.List.{[]}
 use borrow.Author.Needs.{needs}
-use Rattle.meaning.specs.Memory.{sound, waiting, expiries, setClock}
+use Rattle.meaning.specs.Memory.{sound, waiting, expiries, setTimer}
 use Rattle.meaning.proofs.Tests.{denied, affirmed}
 use Rattle.meaning.proofs.Sound.{opened}
 use Rattle.meaning.proofs.Numbers.{expiry-1, expiry-8}
 use Rattle.meaning.proofs.Timer.{expiry-again, expiry-given-up}
 use Rattle.endpoint.specs.Outcomes.{numberOf, lengthOf}
 use Rattle.endpoint.specs.declared.Outcome.the-variants.{MemoryUnsound, Idle, SendAgain, GivenUp}
-use Rattle.endpoint.proofs.Exits.{gives-told, gives-left, counted-on}
+use Rattle.endpoint.proofs.Exits.{gives-number, gives-left, counted-on}
 use Rattle.endpoint.proofs.expiry.Statement.{statement}
 use Rattle.endpoint.proofs.expiry.Tie as tie
 
@@ -32,7 +32,7 @@ returns : tie.Need-returns
 unfolding numberOf lengthOf
 returns c =
     let m = c .before .before .before .before .args .memory .now in
-    gives-told m [] 1 MemoryUnsound (expiry-1 m (sym (c .before .sound .ensures) ∙ denied _ (c .if1 .taken))) refl refl
+    gives-number m [] 1 MemoryUnsound (expiry-1 m (sym (c .before .sound .ensures) ∙ denied _ (c .if1 .taken))) refl refl
 
 waiting-requires : tie.Need-waiting-requires
 waiting-requires c κs = opened _ (tested (c .before)) .long
@@ -44,16 +44,16 @@ returns-2 : tie.Need-returns-2
 unfolding numberOf lengthOf
 returns-2 c =
     let m = c .before .before .before .before .before .before .before .args .memory .now in
-    gives-told m [] 8 Idle (expiry-8 m (tested (c .before .before .before)) (sym (c .before .waiting .ensures) ∙ denied _ (c .if2 .taken))) refl refl
+    gives-number m [] 8 Idle (expiry-8 m (tested (c .before .before .before)) (sym (c .before .waiting .ensures) ∙ denied _ (c .if2 .taken))) refl refl
 
 expiries-requires : tie.Need-expiries-requires
 expiries-requires c κs = opened _ (tested (c .before .before .before .before)) .long
 
-add-set-clock : tie.Need-add-set-clock
-add-set-clock c = search needs
+add-set-timer : tie.Need-add-set-timer
+add-set-timer c = search needs
 
-set-clock-requires : tie.Need-set-clock-requires
-set-clock-requires c κs = opened _ (tested (c .before .before .before .before .before .before .before)) .long
+set-timer-requires : tie.Need-set-timer-requires
+set-timer-requires c κs = opened _ (tested (c .before .before .before .before .before .before .before)) .long
 
 same-length-3 : tie.Need-same-length-3
 same-length-3 c = search needs
@@ -65,11 +65,11 @@ returns-3 c =
     let e = t .before .expiries .ensures in
     let k = t .before .before .before in
     let m = k .before .before .before .before .before .before .before .args .memory .now in
-    gives-left (setClock m 1 (expiries m + 1)) 20 SendAgain (expiry-again m (tested (k .before .before .before)) (waits k) (omega (arith, e, t .if3 .taken))) refl refl
-    (counted-on m e (c .before .before .set-clock .ensures))
+    gives-left (setTimer m 1 (expiries m + 1)) 20 SendAgain (expiry-again m (tested (k .before .before .before)) (waits k) (omega (arith, e, t .if3 .taken))) refl refl
+    (counted-on m e (c .before .before .set-timer .ensures))
 
-set-clock-requires-2 : tie.Need-set-clock-requires-2
-set-clock-requires-2 c κs = opened _ (tested (c .before .before .before .before .before .before .before)) .long
+set-timer-requires-2 : tie.Need-set-timer-requires-2
+set-timer-requires-2 c κs = opened _ (tested (c .before .before .before .before .before .before .before)) .long
 
 same-length-4 : tie.Need-same-length-4
 same-length-4 c = search needs
@@ -81,7 +81,7 @@ returns-4 c =
     let e = t .before .expiries .ensures in
     let k = t .before .before .before in
     let m = k .before .before .before .before .before .before .before .args .memory .now in
-    gives-left (setClock m 0 0) 21 GivenUp (expiry-given-up m (tested (k .before .before .before)) (waits k) (omega (arith, e, t .if3 .left))) refl refl (c .before .before .set-clock2 .ensures)
+    gives-left (setTimer m 0 0) 21 GivenUp (expiry-given-up m (tested (k .before .before .before)) (waits k) (omega (arith, e, t .if3 .left))) refl refl (c .before .before .set-timer2 .ensures)
 
 pub expiry-spec : {M : Type 1} → statement M
 expiry-spec =
@@ -94,10 +94,10 @@ expiry-spec =
     same-length-2
     returns-2
     expiries-requires
-    add-set-clock
-    set-clock-requires
+    add-set-timer
+    set-timer-requires
     same-length-3
     returns-3
-    set-clock-requires-2
+    set-timer-requires-2
     same-length-4
     returns-4)

@@ -11,7 +11,7 @@ use Rattle.meaning.proofs.Numbers.{localValue-1, localValue-12}
 use Rattle.local.proofs.Values.{permitted-place}
 use Rattle.endpoint.specs.Outcomes.{numberOf, lengthOf}
 use Rattle.endpoint.specs.declared.Outcome.the-variants.{Done, MemoryUnsound, NotPermitted}
-use Rattle.endpoint.proofs.Exits.{gives-told, gives-left, local-does}
+use Rattle.endpoint.proofs.Exits.{gives-number, gives-left, local-does}
 use Rattle.endpoint.proofs.local_value.Statement.{statement}
 use Rattle.endpoint.proofs.local_value.Tie as tie
 
@@ -31,7 +31,7 @@ returns : tie.Need-returns
 unfolding numberOf lengthOf
 returns c =
     let a = c .before .before .before .before .before .args in
-    gives-told (a .memory .now) [] 1 MemoryUnsound (localValue-1 (a .memory .now) (a .name) (a .value .now) (sym (c .before .sound .ensures) ∙ denied _ (c .if1 .taken))) refl refl
+    gives-number (a .memory .now) [] 1 MemoryUnsound (localValue-1 (a .memory .now) (a .name) (a .value .now) (sym (c .before .sound .ensures) ∙ denied _ (c .if1 .taken))) refl refl
 
 permitted-requires : tie.Need-permitted-requires
 permitted-requires c κs = search needs
@@ -43,7 +43,7 @@ returns-2 : tie.Need-returns-2
 unfolding numberOf lengthOf
 returns-2 c =
     let a = c .before .before .before .before .before .before .before .args in
-    gives-told (a .memory .now) [] 12 NotPermitted (localValue-12 (a .memory .now) (a .name) (a .value .now) (tested (c .before .before)) (sym (c .before .permitted .ensures) ∙ denied _ (c .if2 .taken))) refl refl
+    gives-number (a .memory .now) [] 12 NotPermitted (localValue-12 (a .memory .now) (a .name) (a .value .now) (tested (c .before .before)) (sym (c .before .permitted .ensures) ∙ denied _ (c .if2 .taken))) refl refl
 
 place-of-requires : tie.Need-place-of-requires
 place-of-requires c κs = search needs

@@ -6,7 +6,7 @@ use Rattle.meaning.specs.Memory.{fresh}
 use Rattle.meaning.proofs.Numbers.{makeFresh-1}
 use Rattle.endpoint.specs.Outcomes.{numberOf, lengthOf}
 use Rattle.endpoint.specs.declared.Outcome.the-variants.{Done, MemoryUnsound}
-use Rattle.endpoint.proofs.Exits.{gives-told, gives-left, fresh-does}
+use Rattle.endpoint.proofs.Exits.{gives-number, gives-left, fresh-does}
 use Rattle.endpoint.proofs.make_fresh.Statement.{statement}
 use Rattle.endpoint.proofs.make_fresh.Tie as tie
 
@@ -14,7 +14,7 @@ returns : tie.Need-returns
 unfolding numberOf lengthOf
 returns c =
     let m = c .before .before .args .memory .now in
-    gives-told m [] 1 MemoryUnsound (makeFresh-1 m (c .if1 .taken)) refl refl
+    gives-number m [] 1 MemoryUnsound (makeFresh-1 m (c .if1 .taken)) refl refl
 
 make-fresh-requires : tie.Need-make-fresh-requires
 make-fresh-requires c κs = search needs

@@ -8,7 +8,7 @@ use Rattle.meaning.proofs.Tests.{denied, affirmed}
 use Rattle.meaning.proofs.Numbers.{Taken, message-1, message-2, message-3, message-4}
 use Rattle.endpoint.specs.Outcomes.{numberOf, lengthOf}
 use Rattle.endpoint.specs.declared.Outcome.the-variants.{MemoryUnsound, MessageEmpty, MessageTooLong, TypeUnknown}
-use Rattle.endpoint.proofs.Exits.{gives-told, message-acknowledgement}
+use Rattle.endpoint.proofs.Exits.{gives-number, message-acknowledgement}
 use Rattle.endpoint.proofs.message.Statement.{statement}
 use Rattle.endpoint.proofs.message.Tie as tie
 
@@ -28,7 +28,7 @@ returns : tie.Need-returns
 unfolding numberOf lengthOf
 returns c =
     let a = c .before .before .before .before .before .before .args in
-    gives-told (a .memory .now) (a .room .now) 1 MemoryUnsound (message-1 (a .memory .now) (a .sent .now) (a .room .now) (sym (c .before .sound .ensures) ∙ denied _ (c .if1 .taken))) refl refl
+    gives-number (a .memory .now) (a .room .now) 1 MemoryUnsound (message-1 (a .memory .now) (a .sent .now) (a .room .now) (sym (c .before .sound .ensures) ∙ denied _ (c .if1 .taken))) refl refl
 
 same-length-2 : tie.Need-same-length-2
 same-length-2 c = search needs
@@ -37,7 +37,7 @@ returns-2 : tie.Need-returns-2
 unfolding numberOf lengthOf
 returns-2 c =
     let a = c .before .before .before .before .before .before .before .args in
-    gives-told (a .memory .now) (a .room .now) 2 MessageEmpty (message-2 (a .memory .now) (a .sent .now) (a .room .now) (tested (c .before)) (omega (arith, c .if2 .taken))) refl refl
+    gives-number (a .memory .now) (a .room .now) 2 MessageEmpty (message-2 (a .memory .now) (a .sent .now) (a .room .now) (tested (c .before)) (omega (arith, c .if2 .taken))) refl refl
 
 same-length-3 : tie.Need-same-length-3
 same-length-3 c = search needs
@@ -46,7 +46,7 @@ returns-3 : tie.Need-returns-3
 unfolding numberOf lengthOf
 returns-3 c =
     let a = c .before .before .before .before .before .before .before .before .args in
-    gives-told (a .memory .now) (a .room .now) 3 MessageTooLong (message-3 (a .memory .now) (a .sent .now) (a .room .now) (tested (c .before .before)) (c .if3 .taken)) refl refl
+    gives-number (a .memory .now) (a .room .now) 3 MessageTooLong (message-3 (a .memory .now) (a .sent .now) (a .room .now) (tested (c .before .before)) (c .if3 .taken)) refl refl
 
 shared-slice-read-match : tie.Need-shared-slice-read-match
 shared-slice-read-match c = search needs
@@ -89,7 +89,7 @@ unfolding numberOf lengthOf
 returns-6 c =
     let k = c .before .before in
     let a = k .before .before .before .before .before .before .before .before .args in
-    gives-told (a .memory .now) (a .room .now) 4 TypeUnknown (message-4 (a .memory .now) (a .sent .now) (a .room .now) (taken k) (c .match .rest .0 .1) (c .match .rest .1)) refl refl
+    gives-number (a .memory .now) (a .room .now) 4 TypeUnknown (message-4 (a .memory .now) (a .sent .now) (a .room .now) (taken k) (c .match .rest .0 .1) (c .match .rest .1)) refl refl
 
 pub message-spec : {M : Type 1} → statement M
 message-spec =

@@ -13,7 +13,7 @@ use Rattle.meaning.proofs.Tests.{denied, affirmed}
 use Rattle.meaning.proofs.Numbers.{Taken, Measured, message-5, message-6}
 use Rattle.endpoint.specs.Outcomes.{numberOf, lengthOf}
 use Rattle.endpoint.specs.declared.Outcome.the-variants.{LengthWrong, OperationMalformed}
-use Rattle.endpoint.proofs.Exits.{gives-told, list-is, not-whole, message-command}
+use Rattle.endpoint.proofs.Exits.{gives-number, list-is, not-whole, message-command}
 use Rattle.endpoint.proofs.take_command.Statement.{statement}
 use Rattle.endpoint.proofs.take_command.Tie as tie
 
@@ -45,7 +45,7 @@ unfolding numberOf lengthOf
 returns c =
     let s = c .before .before .before .before in
     let a = s .args in
-    gives-told (a .memory .now) (a .room .now) 5 LengthWrong (message-5 (a .memory .now) (a .sent .now) (a .room .now) (taken s) (s .pre .3) (inl (c .if1 .taken))) refl refl
+    gives-number (a .memory .now) (a .room .now) 5 LengthWrong (message-5 (a .memory .now) (a .sent .now) (a .room .now) (taken s) (s .pre .3) (inl (c .if1 .taken))) refl refl
 
 get16-requires : tie.Need-get16-requires
 get16-requires c κs = search needs
@@ -55,7 +55,7 @@ unfolding numberOf lengthOf at16
 returns-2 c =
     let s = c .before .before .before .before .before .before in
     let a = s .args in
-    gives-told (a .memory .now) (a .room .now) 5 LengthWrong
+    gives-number (a .memory .now) (a .room .now) 5 LengthWrong
     (message-5 (a .memory .now) (a .sent .now) (a .room .now) (taken s) (s .pre .3) (inr (inl (sym (c .before .get16 .ensures .0) ∙ c .if2 .taken)))) refl refl
 
 add-if3 : tie.Need-add-if3
@@ -67,7 +67,7 @@ returns-3 c =
     let s = c .before .before .before .before .before .before .before in
     let a = s .args in
     let h : length (a .sent .now) < 3 + (octet (a .sent .now) 1 * 256 + octet (a .sent .now) 2) = omega (arith, c .if3 .taken, c .before .before .get16 .ensures .0) in
-    gives-told (a .memory .now) (a .room .now) 5 LengthWrong (message-5 (a .memory .now) (a .sent .now) (a .room .now) (taken s) (s .pre .3) (inr (inr h))) refl refl
+    gives-number (a .memory .now) (a .room .now) 5 LengthWrong (message-5 (a .memory .now) (a .sent .now) (a .room .now) (taken s) (s .pre .3) (inr (inr h))) refl refl
 
 add-list : tie.Need-add-list
 add-list c = search needs
@@ -89,7 +89,7 @@ unfolding numberOf lengthOf
 returns-4 c =
     let a = c .before .before .before .before .before .before .before .before .before .before .args in
     let w = found (c .before) ∙ denied _ (c .if4 .taken) in
-    gives-told (a .memory .now) (a .room .now) 6 OperationMalformed
+    gives-number (a .memory .now) (a .room .now) 6 OperationMalformed
     (message-6 (a .memory .now) (a .sent .now) (a .room .now) (measured (c .before .before .before)) (not-whole _ w)) refl refl
 
 carry-out-requires : tie.Need-carry-out-requires

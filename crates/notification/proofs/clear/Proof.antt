@@ -7,7 +7,7 @@ use mathlib.Core.Bool.{Bool, false}
 use mathlib.Core.List.{List}
 use lib.ListN.{length}
 use borrow.Author.Needs.{needs}
-use Rattle.meaning.specs.Memory.{subscribed, remark}
+use Rattle.meaning.specs.Memory.{subscribed, setMarks}
 use Rattle.meaning.specs.Calls.{cleared}
 use Rattle.notification.proofs.clear.Statement.{statement}
 use Rattle.notification.proofs.clear.Tie as tie
@@ -19,8 +19,8 @@ abbrev μ-loop : tie.MeasureT-loop
 μ-loop m₀ k₀ m k = 19 - k
 
 -- what a turn leaves, with the subscription as the memory says it
-marked : (m : List ℕ) (k : ℕ) {s : Bool} {m′ : List ℕ} → s ≡ subscribed m k → m′ ≡ remark m k s false → m′ ≡ remark m k (subscribed m k) false
-marked m k e f = f ∙ ap (λ (b : Bool). remark m k b false) e
+marked : (m : List ℕ) (k : ℕ) {s : Bool} {m′ : List ℕ} → s ≡ subscribed m k → m′ ≡ setMarks m k s false → m′ ≡ setMarks m k (subscribed m k) false
+marked m k e f = f ∙ ap (λ (b : Bool). setMarks m k b false) e
 
 loop-holds : tie.Need-loop-holds Inv-loop μ-loop
 unfolding cleared
@@ -29,8 +29,8 @@ loop-holds c = (search needs, search needs, refl, refl)
 subscribed-requires : tie.Need-subscribed-requires Inv-loop μ-loop
 subscribed-requires c κs = search needs
 
-remark-requires : tie.Need-remark-requires Inv-loop μ-loop
-remark-requires c κs = search needs
+set-marks-requires : tie.Need-set-marks-requires Inv-loop μ-loop
+set-marks-requires c κs = search needs
 
 add-k : tie.Need-add-k Inv-loop μ-loop
 add-k c = search needs
@@ -41,7 +41,7 @@ loop-less c = search needs
 loop-again : tie.Need-loop-again Inv-loop μ-loop
 unfolding cleared
 loop-again c =
-    let p = c .before .before .remark in
+    let p = c .before .before .set-marks in
     let l = c .before .before .before .before .before .before .before .loop in
     (search needs, p .kept .0 ∙ l .inv .1, p .kept .0 ∙ l .inv .2, marked (l .m) (l .k) (c .before .before .before .before .subscribed .ensures) (p .ensures) ∙ rw (add-one, l .inv .3))
 
@@ -62,7 +62,7 @@ clear-spec =
     μ-loop
     loop-holds
     subscribed-requires
-    remark-requires
+    set-marks-requires
     add-k
     loop-less
     loop-again

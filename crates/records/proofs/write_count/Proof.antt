@@ -1,25 +1,20 @@
 -- `records::write_count` meets its contract.
-use mathlib.Core.Path.{refl}
 use borrow.Author.Needs.{needs}
-use Rattle.octets.proofs.Splices.{one-store}
 use Rattle.records.proofs.write_count.Statement.{statement}
 use Rattle.records.proofs.write_count.Tie as tie
 
-cast-out : tie.Need-cast-out
-cast-out c = search needs
+cast-write-octet : tie.Need-cast-write-octet
+cast-write-octet c = search needs
 
-slice-write-out : tie.Need-slice-write-out
-slice-write-out c = search needs
-
-add-result : tie.Need-add-result
-add-result c = search needs
+write-octet-requires : tie.Need-write-octet-requires
+write-octet-requires c κs = search needs
 
 same-length : tie.Need-same-length
 same-length c = search needs
 
 returns : tie.Need-returns
-returns c = (refl, one-store (c .args .out .now) (c .args .at) (c .args .count) (c .pre .0))
+returns c = c .before .before .write-octet .ensures
 
 pub write-count-spec : {M : Type 1} → statement M
 write-count-spec =
-    tie.close (tie.spec cast-out slice-write-out add-result same-length returns)
+    tie.close (tie.spec cast-write-octet write-octet-requires same-length returns)

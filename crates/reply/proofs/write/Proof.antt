@@ -16,9 +16,9 @@ use Rattle.tally.specs.Tallies.{tallyOf}
 use Rattle.tally.proofs.Lengths.{asked-names}
 use Rattle.section.specs.Kinds.{order, recordsOf}
 use Rattle.section.specs.Places.{placeOf}
-use Rattle.reply.specs.Sections.{front, begins}
+use Rattle.reply.specs.Sections.{preface, begins}
 use Rattle.reply.proofs.Parts.{copy-long, fits-of, pieces, type-fits, names-fit, after-names}
-use Rattle.reply.proofs.Fronts.{fronts-fit, sections-fit, pieces-written}
+use Rattle.reply.proofs.Prefaces.{prefaces-fit, sections-fit, pieces-written}
 use Rattle.reply.proofs.write.Statement.{statement}
 use Rattle.reply.proofs.write.Tie as tie
 
@@ -44,33 +44,33 @@ module _ (c : tie.After-write-capabilities) where
 
   begun : Left (start .args .out .now) 0 (complete (rs start)) (c .write-capabilities .last .1 .0) (c .write-capabilities .result) (pieces (rs start))
   begun =
-      after-names (rs start) (start .args .out .now) (room start) (c .before .before .before .before .write-count .ensures)
+      after-names (rs start) (start .args .out .now) (room start) (c .before .before .before .before .write-octet .ensures)
       (rw (names-asked start) at (c .write-capabilities .ensures))
 
 -- what stands before the records is written
-module _ (c : tie.After-write-fronts) where
+module _ (c : tie.After-write-prefaces) where
   abbrev names : tie.After-write-capabilities
   names = c .before .before .before .before
 
-  fronted : Filled order (begins (tallyOf (rs (start names))) (names .write-capabilities .result)) (front (tallyOf (rs (start names)))) (names .write-capabilities .last .1 .0)
-      (placeOf (c .write-fronts .result)) (c .write-fronts .last .1 .0)
-  fronted = rw (start names .pre .1 .0) at (c .write-fronts .ensures)
+  prefaced : Filled order (begins (tallyOf (rs (start names))) (names .write-capabilities .result)) (preface (tallyOf (rs (start names)))) (names .write-capabilities .last .1 .0)
+      (placeOf (c .write-prefaces .result)) (c .write-prefaces .last .1 .0)
+  prefaced = rw (start names .pre .1 .0) at (c .write-prefaces .ensures)
 
-write-count-requires : tie.Need-write-count-requires
-write-count-requires c κs =
+write-octet-requires : tie.Need-write-octet-requires
+write-octet-requires c κs =
     let s = c .before .before .before .before .before in
-    (type-fits (rs s) (s .args .out .now) (room s), omega arith)
+    type-fits (rs s) (s .args .out .now) (room s)
 
 write-capabilities-requires : tie.Need-write-capabilities-requires
 write-capabilities-requires c κs =
     let s = c .before .before .before .before .before .before .before .before .before in
-    rw (names-asked s) (names-fit (rs s) (s .args .out .now) (room s) (c .before .before .before .write-count .ensures))
+    rw (names-asked s) (names-fit (rs s) (s .args .out .now) (room s) (c .before .before .before .write-octet .ensures))
 
-write-fronts-requires : tie.Need-write-fronts-requires
-write-fronts-requires c κs =
+write-prefaces-requires : tie.Need-write-prefaces-requires
+write-prefaces-requires c κs =
     let w = c .before .before .before in
     let s = start w in
-    let h = fronts-fit (rs s) (w .write-capabilities .result) (w .write-capabilities .last .1 .0) (left-fits (begun w)) in
+    let h = prefaces-fit (rs s) (w .write-capabilities .result) (w .write-capabilities .last .1 .0) (left-fits (begun w)) in
     (s .pre .1 .1, rw (begun w .same) (s .pre .1 .2), rw (s .pre .1 .0) h)
 
 renew-requires : tie.Need-renew-requires
@@ -84,7 +84,7 @@ write-requires c κs =
     let w = names f in
     let s = start w in
     rw (c .before .before .before .before .renew .ensures)
-    (s .pre .0 .0, s .pre .0 .1, s .pre .0 .2, sections-fit (rs s) (w .write-capabilities .result) (w .write-capabilities .last .1 .0) (left-fits (begun w)) (f .write-fronts .result) (f .write-fronts .last .1 .0) (fronted f))
+    (s .pre .0 .0, s .pre .0 .1, s .pre .0 .2, sections-fit (rs s) (w .write-capabilities .result) (w .write-capabilities .last .1 .0) (left-fits (begun w)) (f .write-prefaces .result) (f .write-prefaces .last .1 .0) (prefaced f))
 
 same-length : tie.Need-same-length
 same-length c = search needs
@@ -98,16 +98,16 @@ returns c =
     let w = names f in
     let s = start w in
     let k = rw (c .before .before .before .before .before .before .before .before .before .renew .ensures) at (c .before .before .before .before .write .ensures) in
-    let p = pieces-written (rs s) (w .write-capabilities .result) (w .write-capabilities .last .1 .0) (left-fits (begun w)) (f .write-fronts .result) (f .write-fronts .last .1 .0) (fronted f) _ (k .1) in
+    let p = pieces-written (rs s) (w .write-capabilities .result) (w .write-capabilities .last .1 .0) (left-fits (begun w)) (f .write-prefaces .result) (f .write-prefaces .last .1 .0) (prefaced f) _ (k .1) in
     (k .0, left-last (begun w) p .1 ∙ at-start (s .args .out .now) (complete (rs s)))
 
 pub write-spec : {M : Type 1} → statement M
 write-spec =
     tie.close
     (tie.spec
-    write-count-requires
+    write-octet-requires
     write-capabilities-requires
-    write-fronts-requires
+    write-prefaces-requires
     renew-requires
     write-requires
     same-length

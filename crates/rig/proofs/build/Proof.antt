@@ -3,7 +3,7 @@ use native.Mathlib.Omega.{arith}
 use borrow.Author.Needs.{needs}
 use Rattle.meaning.specs.Calls.{build}
 use Rattle.meaning.proofs.Refused.{build-room}
-use Rattle.endpoint.proofs.Told.{found}
+use Rattle.endpoint.proofs.OneOutcome.{found}
 use Rattle.text.proofs.Answered.{answer-short, answered}
 use Rattle.rig.proofs.build.Statement.{statement}
 use Rattle.rig.proofs.build.Tie as tie

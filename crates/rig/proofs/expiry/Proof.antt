@@ -4,7 +4,7 @@ use mathlib.Core.List.{[]}
 use borrow.Author.Needs.{needs}
 use Rattle.meaning.specs.Calls.{expiry}
 use Rattle.meaning.proofs.Refused.{expiry-room}
-use Rattle.endpoint.proofs.Told.{found}
+use Rattle.endpoint.proofs.OneOutcome.{found}
 use Rattle.text.proofs.Answered.{answer-short, answered}
 use Rattle.rig.proofs.expiry.Statement.{statement}
 use Rattle.rig.proofs.expiry.Tie as tie

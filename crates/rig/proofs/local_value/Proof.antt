@@ -4,7 +4,7 @@ use mathlib.Core.List.{[]}
 use borrow.Author.Needs.{needs}
 use Rattle.meaning.specs.Calls.{localValue}
 use Rattle.meaning.proofs.Refused.{localValue-room}
-use Rattle.endpoint.proofs.Told.{found}
+use Rattle.endpoint.proofs.OneOutcome.{found}
 use Rattle.text.proofs.Answered.{answer-short, answered}
 use Rattle.rig.proofs.local_value.Statement.{statement}
 use Rattle.rig.proofs.local_value.Tie as tie

@@ -14,8 +14,8 @@ returns c base permitted =
     let a = s .args in
     sym (fit-none base (a .count .now) (a .list .now) (a .ratio .now) permitted (s .pre .0) (s .pre .1) (s .pre .2) (c .if1 .taken))
 
-number-requires : tie.Need-number-requires
-number-requires c κs =
+as-number-requires : tie.Need-as-number-requires
+as-number-requires c κs =
     let s = c .before .before .before .before in
     rw (permitted-count (s .args .count .now) (s .pre .0) .0)
 
@@ -23,7 +23,7 @@ returns-2 : tie.Need-returns-2
 returns-2 c base permitted =
     let s = c .before .before .before .before .before .before in
     let a = s .args in
-    sym (fit-unheld base (a .count .now) (a .list .now) (a .ratio .now) permitted (s .pre .0) (s .pre .1) (s .pre .2) (c .before .before .if1 .left) (c .before .number .ensures .0) (c .if2 .taken))
+    sym (fit-unheld base (a .count .now) (a .list .now) (a .ratio .now) permitted (s .pre .0) (s .pre .1) (s .pre .2) (c .before .before .if1 .left) (c .before .as-number .ensures .0) (c .if2 .taken))
 
 intervals-requires : tie.Need-intervals-requires
 intervals-requires c κs =
@@ -39,10 +39,10 @@ returns-3 : tie.Need-returns-3
 returns-3 c base permitted =
     let s = c .before .before .before .before .before .before .before .before in
     let a = s .args in
-    let found = fit-held base (a .count .now) (a .list .now) (a .ratio .now) permitted (s .pre .0) (s .pre .1) (s .pre .2) (c .before .before .before .before .if1 .left) (c .before .before .before .number .ensures .0) (c .before .before .if2 .left) in
+    let found = fit-held base (a .count .now) (a .list .now) (a .ratio .now) permitted (s .pre .0) (s .pre .1) (s .pre .2) (c .before .before .before .before .if1 .left) (c .before .before .before .as-number .ensures .0) (c .before .before .if2 .left) in
     c .fits-cycle .ensures ∙ ap (λ (s : ℕ). leb s (cycle (a .ratio .now))) (c .before .intervals .ensures) ∙ sym found
 
 pub fit-together-spec : {M : Type 1} → statement M
 fit-together-spec =
     tie.close
-    (tie.spec returns number-requires returns-2 intervals-requires fits-cycle-requires returns-3)
+    (tie.spec returns as-number-requires returns-2 intervals-requires fits-cycle-requires returns-3)

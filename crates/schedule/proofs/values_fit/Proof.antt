@@ -38,8 +38,8 @@ returns-3 c =
 walk-requires : tie.Need-walk-requires
 walk-requires c κs = search needs
 
-number-requires : tie.Need-number-requires
-number-requires c κs = rw (c .before .before .before .before .before .before .before .before .before .pre .1)
+as-number-requires : tie.Need-as-number-requires
+as-number-requires c κs = rw (c .before .before .before .before .before .before .before .before .before .pre .1)
 
 time-ok-requires : tie.Need-time-ok-requires
 time-ok-requires c κs = search needs
@@ -57,7 +57,7 @@ returns-4 c =
     let d = sym (k .before .ratio-ok .ensures) ∙ affirmed _ (k .if3 .left) in
     fit-found (a .base .now) (a .count .now) (a .list .now) (a .ratio .now) (s .pre .0) (s .pre .1) (s .pre .2)
     (c .before .before .time-ok .ensures)
-    (c .before .before .before .number .ensures .0)
+    (c .before .before .before .as-number .ensures .0)
     (c .before .before .before .before .walk .ensures .0)
     (c .before .before .before .before .walk .ensures .1)
     (c .before .fits-cycle .ensures)
@@ -74,7 +74,7 @@ values-fit-spec =
     ratio-ok-requires
     returns-3
     walk-requires
-    number-requires
+    as-number-requires
     time-ok-requires
     fits-cycle-requires
     returns-4)

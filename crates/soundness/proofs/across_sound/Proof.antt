@@ -3,7 +3,7 @@ use native.Mathlib.Omega.{arith}
 use mathlib.Core.Bool.{and-true}
 use borrow.Author.Needs.{needs}
 use Rattle.meaning.specs.Octets.{every, implies}
-use Rattle.meaning.specs.Memory.{clock, clockSound}
+use Rattle.meaning.specs.Memory.{timer, timerSound}
 use Rattle.meaning.proofs.Lists.{part-octet}
 use Rattle.soundness.specs.Fields.{acrossSound}
 use Rattle.soundness.proofs.across_sound.Statement.{statement}
@@ -21,17 +21,17 @@ present-requires-3 c κs = search needs
 four-present-requires : tie.Need-four-present-requires
 four-present-requires c κs = search needs
 
-shared-slice-read-clock-sound : tie.Need-shared-slice-read-clock-sound
-shared-slice-read-clock-sound c = search needs
+shared-slice-read-timer-sound : tie.Need-shared-slice-read-timer-sound
+shared-slice-read-timer-sound c = search needs
 
-shared-slice-read-clock-sound-2 : tie.Need-shared-slice-read-clock-sound-2
-shared-slice-read-clock-sound-2 c = search needs
+shared-slice-read-timer-sound-2 : tie.Need-shared-slice-read-timer-sound-2
+shared-slice-read-timer-sound-2 c = search needs
 
-clock-sound-requires : tie.Need-clock-sound-requires
-clock-sound-requires c κs = search needs
+timer-sound-requires : tie.Need-timer-sound-requires
+timer-sound-requires c κs = search needs
 
 returns : tie.Need-returns
-unfolding acrossSound every implies clockSound clock
+unfolding acrossSound every implies timerSound timer
 returns c =
     let m = c .before .before .before .before .before .before .before .before .args .m .now in
     rw (
@@ -39,7 +39,7 @@ returns c =
       c .before .before .before .before .before .present2 .ensures,
       c .before .before .before .before .present3 .ensures,
       c .before .before .before .four-present .ensures,
-      c .clock-sound .ensures,
+      c .timer-sound .ensures,
       part-octet m 114 2 0 (omega arith),
       part-octet m 114 2 1 (omega arith),
       and-true,
@@ -53,7 +53,7 @@ across-sound-spec =
     present-requires-2
     present-requires-3
     four-present-requires
-    shared-slice-read-clock-sound
-    shared-slice-read-clock-sound-2
-    clock-sound-requires
+    shared-slice-read-timer-sound
+    shared-slice-read-timer-sound-2
+    timer-sound-requires
     returns)

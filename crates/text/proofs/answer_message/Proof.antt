@@ -2,7 +2,7 @@
 use native.Mathlib.Omega.{arith}
 use borrow.Author.Needs.{needs}
 use Rattle.meaning.specs.Calls.{message}
-use Rattle.endpoint.proofs.Told.{message-written}
+use Rattle.endpoint.proofs.OneOutcome.{message-written}
 use Rattle.text.proofs.Answered.{answer-short, answered}
 use Rattle.text.proofs.answer_message.Statement.{statement}
 use Rattle.text.proofs.answer_message.Tie as tie
