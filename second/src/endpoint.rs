@@ -19,29 +19,29 @@ const LEAST_NOTIFICATION_ROOM: usize = 1_600;
 pub enum Number {
     /// Done.
     Done = 0,
-    /// Memory not 2,100 octets or not sound.
+    /// Memory of a wrong length, or unsound (RULES 15.2).
     MemoryUnsound = 1,
-    /// Message empty.
+    /// A message of no octets (RULES 15.3).
     MessageEmpty = 2,
-    /// Message over 2,048 octets.
+    /// A message of more than 2,048 octets (RULES 15.4).
     MessageTooLong = 3,
-    /// Type neither 01 nor 04.
+    /// A message of another type (RULES 15.5).
     UnknownType = 4,
-    /// L missing, 0, or past the end.
+    /// A command with a wrong L (RULES 15.6).
     WrongLength = 5,
-    /// An operation malformed or cut short.
+    /// An operation that cannot be read (RULES 15.7).
     Malformed = 6,
-    /// Reply longer than its room or than 4,096, or a count over 255.
+    /// A reply that does not fit (RULES 15.8).
     ReplyTooLong = 7,
-    /// 04 or an expiry while idle.
+    /// No notification waits (RULES 15.9).
     Idle = 8,
-    /// Nothing pending.
+    /// There is nothing to notify (RULES 15.10).
     NothingPending = 9,
-    /// Already waiting.
+    /// A notification waits (RULES 15.11).
     AlreadyWaiting = 10,
-    /// Notification room under 1,600 octets.
+    /// A room below 1,600 octets (RULES 15.12).
     RoomTooSmall = 11,
-    /// Local name not set by the port, or value not permitted.
+    /// A local value that section 13 of the rules does not allow (RULES 15.13).
     NotPermitted = 12,
     /// The notification is to be sent again.
     SendAgain = 20,
@@ -54,7 +54,7 @@ pub enum Number {
 pub struct Answer {
     /// The number.
     pub number: Number,
-    /// Octets of the reply or notification written, 0 where there is none.
+    /// How many octets were written (RULES 2.5).
     pub length: usize,
 }
 

@@ -1,4 +1,4 @@
-//! The operations of a command, handed out one after another from the list.
+//! The operations of a command, as they follow one another in its octets (RULES 10.10).
 
 /// One operation.
 #[derive(Clone, Copy, Debug, PartialEq, Eq)]

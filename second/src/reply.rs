@@ -33,13 +33,13 @@ static CAPABILITIES: [u8; HEAD + 2 * COUNT] = {
 /// Why a read or a set failed.
 #[derive(Clone, Copy, Debug, PartialEq, Eq)]
 pub enum Cause {
-    /// 01: the name is not in the table.
+    /// 01: no such name (RULES 11.3, 11.6).
     NotSupported,
-    /// 02: length, value rule or commit not met.
+    /// 02: not a value that may be set (RULES 11.8).
     InvalidValue,
-    /// 03: the value is absent.
+    /// 03: there is no value (RULES 11.4, 14.5).
     Unavailable,
-    /// 6F: not set by the controller.
+    /// 6F: not the controller's (RULES 11.7).
     Unspecified,
 }
 

@@ -1,4 +1,4 @@
-// The program of document 01: frames from standard input, one line a frame to standard output, over one memory.
+// The program `bridge` (RULES 16): frames from standard input, one line a frame to standard output, over one memory.
 // Input is read in large blocks, and lines are written out in blocks.
 use input::Got;
 use input::Next;

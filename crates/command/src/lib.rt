@@ -23,7 +23,7 @@ pub enum Answer {
     Silent,
 }
 
-// A read: cause 01 for a name not in the table, 03 for an absent value.
+// A read: its value, or the causes of RULES 11.3 and 11.4.
 fn read(m: &[u8], name: usize) -> Answer
     requires { ⌜ length (now m) ≡ memoryLength ⌝ }
     ensures { λ r. ⌜ AnswersRead (now (m .entry)) name r ⌝ }

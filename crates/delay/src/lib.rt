@@ -17,7 +17,7 @@ const LARGEST: u64 = (1 << 63) - 1;
 // Whole nanoseconds.
 pub struct Nanoseconds(pub u64);
 
-// Units of a nanosecond divided by 65,536.
+// Delay units (RULES 7.1).
 pub struct DelayUnits(pub u64);
 
 // Delay units as whole nanoseconds and the units over, too few for one more.
@@ -33,7 +33,7 @@ pub enum Stored {
 }
 
 impl Nanoseconds {
-    // 0 to 2^47 - 1 nanoseconds convert exactly; anything larger becomes the largest delay.
+    // Exact below 2^47 nanoseconds (RULES 7.3), the largest delay from there on (RULES 7.4).
     pub fn to_delay_units(self) -> DelayUnits
         ensures { λ r. ⌜ (r .0 ≡ units (self .0)) × (r .0 < 2 ^ 63) ⌝ }
     {

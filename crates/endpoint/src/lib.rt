@@ -106,7 +106,7 @@ pub fn written(outcome: Outcome) -> usize
     n
 }
 
-// An acknowledgement: the reply 05 and idle while waiting.
+// An acknowledgement (RULES 14.11).
 fn acknowledge(memory: &mut [u8], room: &mut [u8]) -> Outcome
     requires { ⌜ sound (now memory) ≡ true ⌝ }
     ensures { λ r. ⌜ Gives (acknowledgement (now (memory .entry)) (now (room .entry))) r (now (memory .exit)) (now (room .exit)) ⌝ }
@@ -122,7 +122,7 @@ fn acknowledge(memory: &mut [u8], room: &mut [u8]) -> Outcome
     Outcome::Done(1)
 }
 
-// A whole list of operations, carried out on a working copy; the copy becomes the memory when the reply is known to fit.
+// A whole list of operations, carried out on a working copy, which is written back once the reply fits (RULES 10.13, 10.14).
 fn carry_out(memory: &mut [u8], list: &[u8], room: &mut [u8]) -> Outcome
     requires { ⌜ (sound (now memory) ≡ true) × (isSome (parse (now list)) ≡ true) × (length (now list) ≤ messageMost) ⌝ }
     ensures { λ r. ⌜ Gives (command (now (memory .entry)) (now (list .entry)) (now (room .entry))) r (now (memory .exit)) (now (room .exit)) ⌝ }

@@ -42,7 +42,7 @@ pub fn permitted(name: usize, value: &[u8]) -> bool
     table::permits(k, value)
 }
 
-// The value stored in its room, or made absent. A subscribed name is marked pending if value or presence differs.
+// The value stored in its room, or made absent (RULES 13.3, 13.4), and the mark that it leaves (RULES 13.5 to 13.9).
 pub fn store(m: &mut [u8], k: usize, value: &[u8])
     requires { ⌜ (length (now m) ≡ memoryLength) × (k < entryCount) × (length (now value) ≤ rowAt k .most) ⌝ }
     ensures { λ _. ⌜ now (m .exit) ≡ localMemory (now (m .entry)) k (now (value .entry)) ⌝ }

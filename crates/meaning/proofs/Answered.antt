@@ -1,4 +1,4 @@
--- Law 3: every read and every set is answered exactly once, as value or cause, in list order, and with what document 01 gives.
+-- Law 3: every read and every set is answered exactly once, as value or cause, in list order (RULES 19.4), and with what the rules give.
 use Prim.Native.Nat.{ℕ, zero, suc, _+_, _≤_, _<_}
 use native.Mathlib.Omega.{arith}
 use mathlib.Core.Path.{_≡_, refl}

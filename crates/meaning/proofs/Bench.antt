@@ -65,7 +65,7 @@ tableNames =
     0 ∷ 0x01 ∷ 0 ∷ 0x03 ∷ 0 ∷ 0x04 ∷ 0 ∷ 0x05 ∷ 0 ∷ 0x06 ∷ 0 ∷ 0x07 ∷ 0 ∷ 0x08 ∷ 0 ∷ 0x0B ∷ 0 ∷ 0x40 ∷ 0 ∷ 0x41 ∷ 0 ∷ 0x42 ∷ 0
     ∷ 0x60 ∷ 0 ∷ 0x61 ∷ 0 ∷ 0xA0 ∷ 0 ∷ 0xA1 ∷ 0 ∷ 0xA2 ∷ 0 ∷ 0xA3 ∷ 0 ∷ 0xA4 ∷ 0x80 ∷ 0x01 ∷ []
 
--- the examples in document 01's order; the seventh for any four octets of a commit
+-- the examples of RULES 18.2 to 18.11; the seventh for any four octets of a commit
 unfoldable pub examples : ℕ → ℕ → ℕ → ℕ → List Example
 examples a b c d =
     example (sent (1 ∷ 0 ∷ 3 ∷ 2 ∷ 0 ∷ 3 ∷ [])) 0 (0x02 ∷ 0x71 ∷ 0 ∷ 7 ∷ 1 ∷ 0 ∷ 3 ∷ 0 ∷ 1 ∷ 0 ∷ 0 ∷ [])

@@ -82,7 +82,7 @@ module _ (m : List ℕ) (S : Sound m) (k : ℕ) (hk : k < entryCount) (p : prese
 
 -- ---- the conditions
 
--- a list entry: operation 0, 1 or 2; the octet 5; the interval not 0
+-- a list entry (RULES 4.22 to 4.25)
 pub record EntryRule (e : List ℕ) : Type 0 where
   pub operation : octet e 0 ≤ 2
   pub five : octet e 1 ≡ 5
@@ -213,7 +213,7 @@ module _ (m v : List ℕ) (S : Sound m) where
       let s : same v (sums (block m)) ≡ true = ap (λ (w : List ℕ). same w (sums (block m))) e ∙ same-refl (sums (block m)) in
       simp (f, eq-eqb _ _ (c .fourOctets), spelt-form f c, s)
 
--- ---- the rounded-down quotient decides as the product would, which may not fit a register
+-- ---- the quotient of RULES 8.5 decides as the product would, which may not fit a register
 
 pub quotient-decides : (s n d : ℕ) → 1 ≤ d → (s ≤ n * 1000000000 / d) ↔ (s * d ≤ n * 1000000000)
 quotient-decides s n d h = le-div-iff-mul-le h

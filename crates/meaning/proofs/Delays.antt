@@ -1,4 +1,4 @@
--- The delay conversion is exact from 0 to 2^47 - 1 nanoseconds, and anything larger is stored as the largest delay. Units and octets
+-- The delay conversion is exact below 2^47 nanoseconds (RULES 7.3), and gives the largest delay from there on (RULES 7.4). Units and octets
 -- lead back: a stored delay is read as the units that were stored, and units part into whole nanoseconds and a rest.
 use Prim.Native.Nat.{ℕ, zero, suc, _+_, _-_, _*_, _/_, _%_, _^_, _≤_, _<_}
 use native.Mathlib.Omega.{arith}

@@ -1,4 +1,4 @@
--- The edges of each value rule of document 01's table: values that just keep it and values one step off, one statement over one list.
+-- The edges of each value rule (RULES 4.3 to 4.20): values that just keep it and values one step off, one statement over one list.
 use Prim.Native.Nat.{ℕ}
 use mathlib.Core.Bool.{Bool, true, false}
 use mathlib.Core.Path.{_≡_, refl}

@@ -1,4 +1,4 @@
--- What the subscribed and pending marks do: a set never marks anything pending, subscribe and unsubscribe, a local value.
+-- What the subscribed and pending marks do: a set (RULES 11.12), subscribe and unsubscribe (RULES 11.21 to 11.24), a local value (RULES 13.5 to 13.9).
 use Prim.Native.Nat.{ℕ, _≤_, _<_}
 use native.Mathlib.Omega.{arith}
 use native.Mathlib.Decide.{ℕ-discrete}
@@ -62,7 +62,7 @@ module _ (m : List ℕ) (k : ℕ) (s q : Bool) (S : Sound m) (hk : k < entryCoun
       let e = cell-setMarks-other m k s q S hk j ne in
       record { subscription = rw e; pendency = rw e }
 
--- ---- a set never marks anything pending, nor touches a subscription
+-- ---- a set leaves every mark (RULES 11.12)
 
 pub set-marks : (m : List ℕ) (n : ℕ) (v : List ℕ) → sound m ≡ true → (j : ℕ) → j < entryCount → SameMarks m (setMemory m n v) j
 unfolding store
@@ -83,7 +83,7 @@ set-marks m n v s j hj =
         ] in
         at d
 
--- ---- subscribe sets the mark; unsubscribe clears subscribed and pending
+-- ---- subscribe and unsubscribe (RULES 11.21, 11.22)
 
 pub subscribe-marks : (m : List ℕ) (n : ℕ) → sound m ≡ true → listed n ≡ true → Marked (subscribeMemory m n) (place n) true (pending m (place n))
 unfolding subscribeMemory
@@ -101,7 +101,7 @@ pub unsubscribe-others : (m : List ℕ) (n : ℕ) → sound m ≡ true → liste
 unfolding unsubscribeMemory
 unsubscribe-others m n s e j ne = rw e (setMarks-marks-other m (place n) false false (opened m s) (listed-place n e) j ne)
 
--- on unlisted names they do nothing
+-- nothing for other names (RULES 11.24)
 pub unlisted-nothing : (m : List ℕ) (n : ℕ) → listed n ≡ false → (subscribeMemory m n ≡ m) × (unsubscribeMemory m n ≡ m)
 unfolding subscribeMemory unsubscribeMemory
 unlisted-nothing m n e = (rw e, rw e)

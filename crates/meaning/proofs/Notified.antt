@@ -46,7 +46,7 @@ failed-weight : (n c : ℕ) → weight (gathered (readError n c ∷ [])) ≡ 3
 unfolding weight gathered recordOf flat failedOctets be16
 failed-weight n c = refl
 
--- a name is reported with its value; an absent one is an error with cause 03
+-- a name is reported with its value (RULES 14.4) or, where it is absent, with a cause (RULES 14.5)
 pub report-value : (m : List ℕ) (k : ℕ) → present m k ≡ true → report m k ≡ value (rowAt k .name) (body m k)
 unfolding report
 report-value m k e = rw e
@@ -167,7 +167,7 @@ notification-read m =
       longUpdates = sym (t .noLongUpdates) i;
     }
 
--- ---- what it says: all pending names in table order, an absent one as an error with cause 03
+-- ---- what it says: RULES 14.3 to 14.5
 
 unfoldable pub pendingValues : List ℕ → ℕ → List Held
 pendingValues m zero = []

@@ -1,4 +1,4 @@
--- Demand 1 and document 01's table of numbers: which number each call returns when, in the order given there. A number comes before
+-- Demand 1 and the numbers of RULES 15: which number each call returns when, in the orders of RULES 15.16 to 15.19. A number comes before
 -- those that are named after it whatever their own tests say.
 use Prim.Native.Nat.{ℕ, zero, suc, _+_, _*_, _≤_, _<_}
 use native.Mathlib.Omega.{arith}
@@ -28,7 +28,7 @@ no-reports m zero p = refl
 no-reports m (suc k) p =
     rw (p k (omega arith), append-nil (reports m k)) (no-reports m k (λ j h. p j (omega arith)))
 
--- ---- a message: 1 to 6, with 8 for type 04, then 7
+-- ---- a message (RULES 15.16)
 
 -- what passed before type and contents are looked at
 pub record Taken (m s : List ℕ) : Type 0 where
@@ -44,7 +44,7 @@ pub record Measured (m s : List ℕ) : Type 0 where
   pub notZero : 1 ≤ octet s 1 * 256 + octet s 2
   pub inside : 3 + (octet s 1 * 256 + octet s 2) ≤ length s
 
--- L missing, 0, or past the end
+-- a wrong L (RULES 15.6)
 abbrev pub WrongLength : List ℕ → Type 0
 WrongLength s = (length s < 3) ⊎ ((octet s 1 * 256 + octet s 2 ≡ 0) ⊎ (length s < 3 + (octet s 1 * 256 + octet s 2)))
 
@@ -133,7 +133,7 @@ module _ (m s room : List ℕ) where
   unfolding firstFailed isCommand isAcknowledgement implies effect acknowledged fits every
   message-7-acknowledged t a w h = rest-is 6 t (simp (a, w, h))
 
--- ---- building: 1, 11, 10, 9
+-- ---- building (RULES 15.17)
 
 module _ (m room : List ℕ) where
   build-is : (n : ℕ) → firstFailed (buildChecks m (length room)) ≡ suc n → build m room ≡ numberOnly (suc n) m room
@@ -158,7 +158,7 @@ module _ (m room : List ℕ) where
   unfolding buildChecks firstFailed
   build-9 e h w p = build-is 8 (simp (e, le-leb 1600 (length room) h, w, no-reports m entryCount p))
 
--- ---- a local value: 1, 12. An expiry: 1, 8. Making fresh: 1 by length only
+-- ---- a local value (RULES 15.18), an expiry (RULES 15.19), making fresh (RULES 6.4)
 
 pub localValue-1 : (m : List ℕ) (n : ℕ) (v : List ℕ) → sound m ≡ false → localValue m n v ≡ numberOnly 1 m []
 unfolding localValue localChecks firstFailed

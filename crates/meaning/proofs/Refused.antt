@@ -1,5 +1,5 @@
--- Law 2: numbers 1 to 12 return length 0 and change no octet of memory or room; 20 and 21 return length 0 and change only octets
--- 114 and 115; octets of the room after a reply or notification stay.
+-- Law 2: what a refusal leaves of memory and room (RULES 15.24, 15.25), what an expiry leaves (RULES 15.26), and what stays of the
+-- room behind a reply or notification (RULES 2.6).
 use Prim.Native.Nat.{ℕ, suc, _+_, _≤_, _<_}
 use native.Mathlib.Omega.{arith}
 use native.Mathlib.Decide.{decLe}

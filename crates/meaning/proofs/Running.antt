@@ -1,4 +1,4 @@
--- Law 4: the running block changes only by a set of 8001 that meets every condition of document 01, and then becomes the block of
+-- Law 4: the running block changes only by a set of 8001 that meets the conditions of RULES 11.14 to 11.17, and becomes the block of
 -- the four values. No other operation and no other call touches it.
 use Prim.Native.Nat.{ℕ, zero, suc, _+_, _≤_, _<_}
 use native.Mathlib.Omega.{arith}

@@ -1,4 +1,4 @@
--- An unacknowledged notification is sent five times, by its build and by four expiries, whatever other calls come between.
+-- The five sendings of RULES 14.9: by a build and by four expiries, whatever other calls come between.
 use Prim.Native.Nat.{ℕ, _+_, _≤_, _<_}
 use native.Mathlib.Omega.{arith}
 use native.Mathlib.Decide.{decLe}
@@ -235,7 +235,7 @@ pub record PassesAll (m : List ℕ) (n : ℕ) (cs : List Call) : Type 0 where
   pub sent : sendings m cs ≡ expiriesIn cs
   pub meanwhile : EachMeanwhile m cs
 
--- expiries 1 to 4 answer "send again", whatever other calls come between
+-- RULES 14.8, whatever other calls come between
 pub waits-on : (m : List ℕ) (n : ℕ) (cs : List Call) → Waits m n → unacknowledged cs ≡ true → n + expiriesIn cs ≤ 4 → PassesAll m n cs
 unfolding afterCalls sendings expiriesIn unacknowledged
 waits-on m n [] w u h = record { waits = same-waits m m n w (w .isSound) refl; sent = refl; meanwhile = tt }
@@ -275,7 +275,7 @@ pub record SentFive (m room : List ℕ) (cs : List Call) : Type 0 where
   pub idle : Timer (afterCalls m ((buildIn room ∷ cs) ++ (takeExpiry ∷ []))) false 0
   pub inAll : sendings m ((buildIn room ∷ cs) ++ (takeExpiry ∷ [])) ≡ 5
 
--- 01: so an unacknowledged notification is sent five times
+-- RULES 14.9: so it is sent five times
 pub sent-five-times : (m room : List ℕ) (cs : List Call) → build m room .number ≡ 0 → unacknowledged cs ≡ true → expiriesIn cs ≡ 4 → SentFive m room cs
 unfolding afterCalls sendings gives sends
 sent-five-times m room cs e u n =

@@ -1,4 +1,4 @@
--- Sound memory in the words of document 01, octet by octet: the test passes exactly if each sentence holds.
+-- Sound memory clause by clause (RULES 5.1 to 5.14), octet by octet: the test passes exactly if each clause holds.
 use Prim.Native.Nat.{ℕ, suc, _+_, _-_, _*_, _≤_, _<_}
 use native.Mathlib.Omega.{arith}
 use mathlib.Core.Path.{_≡_, refl, sym, ap, _∙_}
@@ -18,7 +18,7 @@ use Rattle.meaning.proofs.Tests.{and-left, and-right, and-both, every-a
 use Rattle.meaning.proofs.Places.{room-end}
 use Rattle.meaning.proofs.Sound.{opened, closed, Entry, entry-of, entry-closed, four-at}
 
--- ---- the sentences
+-- ---- the clauses
 
 -- the length that an entry gives
 abbrev pub lengthAt : List ℕ → ℕ → ℕ

@@ -68,7 +68,7 @@ set-read m n v s e ne =
     let h = set-leaves m n v s e in
     rw (settable m n v e .isListed, h .presence, ne-eqb (place n) commit ne, h .value, stored-value m (place n) v ne)
 
--- reading 8001 gives the sums of the running block
+-- a read of 8001 (RULES 11.2)
 pub read-running : (m : List ℕ) → present m commit ≡ true → answer m (read 0x8001) ≡ value 0x8001 (sums (body m commit))
 unfolding answer readAnswer readChecks firstFailed whenPassed shown
 read-running m p = rw (commit-listed .0, commit-listed .1, p)

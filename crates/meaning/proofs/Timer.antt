@@ -30,7 +30,7 @@ timer-idles : (m : List ℕ) → Sound m → Timer (setTimer m 0 0) false 0
 unfolding waiting expiries
 timer-idles m S = record { waits = rw (timer-setTimer m 0 0 (S .long)); count = rw (timer-setTimer m 0 0 (S .long)) }
 
--- ---- message 04 while waiting: the reply 05, and idle
+-- ---- an acknowledgement while waiting (RULES 14.11)
 
 pub acknowledged-idle : (m room : List ℕ) → sound m ≡ true → waiting m ≡ true → 1 ≤ length room
     → message m (4 ∷ []) room ≡ done (5 ∷ []) (setTimer m 0 0) room
@@ -40,7 +40,7 @@ acknowledged-idle m room s w h = simp (s, w, le-leb 1 (length room) h)
 pub acknowledged-timer : (m room : List ℕ) → sound m ≡ true → waiting m ≡ true → 1 ≤ length room → Timer (message m (4 ∷ []) room .memory) false 0
 acknowledged-timer m room s w h = rw (acknowledged-idle m room s w h) (timer-idles m (opened m s))
 
--- ---- expiries: 1 to 4 send again, the fifth gives up
+-- ---- expiries (RULES 14.8, 14.9)
 
 pub expiry-again : (m : List ℕ) → sound m ≡ true → waiting m ≡ true → expiries m < 4 → expiry m ≡ numberOnly 20 (setTimer m 1 (expiries m + 1)) []
 unfolding expiry call whenPassed expiryChecks firstFailed
@@ -56,7 +56,7 @@ again-timer m s w h = rw (expiry-again m s w h) (timer-waits m (expiries m + 1) 
 pub given-up-timer : (m : List ℕ) → sound m ≡ true → waiting m ≡ true → 4 ≤ expiries m → Timer (expiry m .memory) false 0
 given-up-timer m s w h = rw (expiry-given-up m s w h) (timer-idles m (opened m s))
 
--- ---- building
+-- ---- building (RULES 14.6, 14.7)
 
 -- marks cleared below k, those from k on as they were; no subscription changes
 cleared-marks : (k : ℕ) (m : List ℕ) → k ≤ entryCount → sound m ≡ true → (j : ℕ)

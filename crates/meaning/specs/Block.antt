@@ -15,12 +15,12 @@ asNumberFrom n (x ∷ xs) = asNumberFrom (n * 256 + x) xs
 unfoldable pub asNumber : List ℕ → ℕ
 asNumber v = asNumberFrom 0 v
 
--- ---- AdminBaseTime: seconds (6), nanoseconds (4) under 1,000,000,000
+-- ---- AdminBaseTime: seconds and nanoseconds (RULES 4.5)
 
 unfoldable pub timeOk : List ℕ → Bool
 timeOk v = ltb (at32 v 6) 1000000000
 
--- ---- AdminControlList: entries of 7, each an operation 0, 1 or 2; the octet 5; gate states; interval in nanoseconds (4), not 0
+-- ---- AdminControlList (RULES 4.7) and its entries of 7 octets (RULES 4.22 to 4.25)
 
 -- the first n entries
 unfoldable pub cutIn : ℕ → List ℕ → List (List ℕ)
@@ -48,16 +48,16 @@ unfoldable pub intervals : List (List ℕ) → ℕ
 intervals [] = 0
 intervals (e ∷ es) = interval e + intervals es
 
--- ---- AdminCycleTime: numerator (4), denominator (4) not 0
+-- ---- AdminCycleTime: numerator and denominator (RULES 4.8)
 
 unfoldable pub ratioOk : List ℕ → Bool
 ratioOk v = leb 1 (at32 v 4)
 
--- the cycle in nanoseconds, rounded down
+-- the cycle in whole nanoseconds (RULES 8.5)
 unfoldable pub cycle : List ℕ → ℕ
 cycle v = at32 v 0 * 1000000000 / at32 v 4
 
--- ---- the two sums: the first adds each octet, the second the first sum after each octet; both wrap at 65,536
+-- ---- the two sums, kept modulo 65,536 at each octet (RULES 8.6 to 8.8)
 
 pub record Sums : Type 0 where
   pub first : ℕ
@@ -72,11 +72,11 @@ sumsFrom a b (x ∷ xs) =
 unfoldable pub sumsOf : List ℕ → Sums
 sumsOf s = sumsFrom 0 0 s
 
--- a commit's value: first sum (2), second sum (2)
+-- the sums as the value of a commit (RULES 8.9)
 unfoldable pub sums : List ℕ → List ℕ
 sums s = be16 (sumsOf s .first) ++ be16 (sumsOf s .second)
 
--- ---- a block: the values of 0004 (10), 0005 (4), 0006 (7 n) and 0007 (8) joined, 22 + 7 n octets
+-- ---- a block: four values of 10, 4, 7 n and 8 octets (RULES 8.1)
 
 unfoldable pub joinedBlock : List ℕ → List ℕ → List ℕ → List ℕ → List ℕ
 joinedBlock base count list ratio′ = base ++ (count ++ (list ++ ratio′))
@@ -93,7 +93,7 @@ listOf b = part b 14 (length b - 22)
 unfoldable pub ratioOf : List ℕ → List ℕ
 ratioOf b = part b (length b - 8) 8
 
--- each value keeps its rule, 0005 holds n, n is at least 1, and the intervals fit the cycle
+-- form and fit (RULES 8.2 to 8.5) of a block that is cut by its length
 unfoldable pub formAndFit : List ℕ → Bool
 formAndFit b =
     let n = length (listOf b) / 7 in
@@ -108,7 +108,7 @@ formAndFit b =
     ∷ leb (intervals (entriesOf (listOf b))) (cycle (ratioOf b))
     ∷ [])
 
--- ---- a value that a row permits: its length, and its rule
+-- ---- a value that a row permits: its length, and its rule (RULES 4.1)
 
 unfoldable pub keeps : Rule → List ℕ → Bool
 keeps free v = true

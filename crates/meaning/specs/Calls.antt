@@ -21,7 +21,7 @@ pub record Outcome : Type 0 where
   pub memory : List ℕ
   pub room : List ℕ
 
--- octets written at the room's start; those after them stay
+-- octets written at the room's start; those after them stay (RULES 2.6)
 abbrev pub done : List ℕ → List ℕ → List ℕ → Outcome
 done w m room = record { number = 0; written = w; memory = m; room = w ++ drop (length w) room }
 
@@ -29,20 +29,20 @@ done w m room = record { number = 0; written = w; memory = m; room = w ++ drop (
 abbrev pub numberOnly : ℕ → List ℕ → List ℕ → Outcome
 numberOnly n m room = record { number = n; written = []; memory = m; room = room }
 
--- a call: where a check fails its number, and no lent octet changes
+-- a call: where a check fails its number, and no lent octet changes (RULES 15.24, 15.25)
 unfoldable pub call : Checks → Outcome → List ℕ → List ℕ → Outcome
 call cs o m room = whenPassed (firstFailed cs) o (λ n. numberOnly n m room)
 
--- ---- a message
+-- ---- a message (RULES 9, RULES 10)
 
--- the two types: 01 a command, 04 an acknowledgement
+-- the two types that are taken: a command, an acknowledgement (RULES 9.2)
 unfoldable pub isCommand : List ℕ → Bool
 isCommand s = eqb (octet s 0) typeCommand
 
 unfoldable pub isAcknowledgement : List ℕ → Bool
 isAcknowledgement s = eqb (octet s 0) typeNotifyAck
 
--- L, and the L octets of operations; octets after them are ignored
+-- L and its octets (RULES 10.1); whatever stands behind those is left out (RULES 10.3)
 unfoldable pub lengthField : List ℕ → ℕ
 lengthField s = at16 s 1
 
@@ -52,7 +52,7 @@ operations s = part s 3 (lengthField s)
 unfoldable pub opsOf : List ℕ → List Op
 opsOf s = orNone (parse (operations s))
 
--- L is there, not 0, and not past the end
+-- what L has to be (RULES 10.2)
 unfoldable pub lengthRight : List ℕ → Bool
 lengthRight s = every (leb 3 (length s) ∷ leb 1 (lengthField s) ∷ leb (3 + lengthField s) (length s) ∷ [])
 
@@ -77,7 +77,7 @@ effect m s = cond (isCommand s) (carriedOut m (opsOf s)) (acknowledged m)
 unfoldable pub fits : ℕ → Effect → Bool
 fits n d = every (leb (length (d .reply)) n ∷ leb (length (d .reply)) replyMost ∷ d .counted ∷ [])
 
--- 1 to 6, with 8 for type 04, then 7
+-- in the order of RULES 15.16
 unfoldable pub messageChecks : List ℕ → List ℕ → ℕ → Checks
 messageChecks m s n =
     check 1 (sound m)
@@ -92,7 +92,7 @@ messageChecks m s n =
 unfoldable pub message : List ℕ → List ℕ → List ℕ → Outcome
 message m s room = call (messageChecks m s (length room)) (done (effect m s .reply) (effect m s .memory) room) m room
 
--- ---- a local value
+-- ---- a local value (RULES 13)
 
 unfoldable pub localPermitted : ℕ → List ℕ → Bool
 localPermitted n v =
@@ -106,7 +106,7 @@ localPermitted n v =
 unfoldable pub differs : List ℕ → ℕ → List ℕ → Bool
 differs m k v = not (same (body m k) v)
 
--- an empty value makes it absent; a subscribed name is marked pending if it differs, and an older mark stays
+-- stored or made absent (RULES 13.3, 13.4), and when it is pending then (RULES 13.5 to 13.9)
 unfoldable pub localMemory : List ℕ → ℕ → List ℕ → List ℕ
 localMemory m k v =
     put m k (flags (nonempty v) (subscribed m k) (pending m k || (subscribed m k && differs m k v))) v
@@ -117,7 +117,7 @@ localChecks m n v = check 1 (sound m) (check 12 (localPermitted n v) passed)
 unfoldable pub localValue : List ℕ → ℕ → List ℕ → Outcome
 localValue m n v = call (localChecks m n v) (numberOnly 0 (localMemory m (place n) v) []) m []
 
--- ---- a notification
+-- ---- a notification (RULES 14.1 to 14.7)
 
 unfoldable pub report : List ℕ → ℕ → Answer
 report m k = cond (present m k) (value (rowAt k .name) (body m k)) (readError (rowAt k .name) causeUnavailable)
@@ -148,7 +148,7 @@ unfoldable pub build : List ℕ → List ℕ → Outcome
 build m room =
     call (buildChecks m (length room)) (done (notification m) (setTimer (cleared entryCount m) 1 0) room) m room
 
--- ---- a timer expiry: 20 send again, 21 given up
+-- ---- a timer expiry: 20 send again, 21 given up (RULES 14.8, 14.9)
 
 unfoldable pub expired : List ℕ → Outcome
 expired m = cond (ltb (expiries m) expiriesMost) (numberOnly 20 (setTimer m 1 (expiries m + 1)) []) (numberOnly 21 (setTimer m 0 0) [])
@@ -159,7 +159,7 @@ expiryChecks m = check 1 (sound m) (check 8 (waiting m) passed)
 unfoldable pub expiry : List ℕ → Outcome
 expiry m = call (expiryChecks m) (expired m) m []
 
--- ---- make it fresh
+-- ---- make it fresh (RULES 6.4)
 
 unfoldable pub makeFresh : List ℕ → Outcome
 makeFresh m = call (check 1 (eqb (length m) memoryLength) passed) (numberOnly 0 fresh []) m []

@@ -1,4 +1,5 @@
--- Checks in document 01's order: what counts is the first that fails. Refusals of calls and causes of records are given so.
+-- Checks in an order: what counts is the first that fails. Refusals of calls (RULES 15.16 to 15.19) and causes of records (RULES 11.5)
+-- are given so.
 use Prim.Native.Nat.{ℕ, zero, suc}
 use mathlib.Core.Bool.{Bool, true, false}
 

@@ -4,7 +4,7 @@ use mathlib.Core.Bool.{cond}
 use mathlib.Core.List.{List, [], _∷_}
 use lib.Dec.{ltb}
 
--- 0 to 2^47 - 1 nanoseconds exactly; anything larger becomes the largest delay
+-- exact below 2^47 nanoseconds (RULES 7.3), the largest delay from there on (RULES 7.4)
 unfoldable pub units : ℕ → ℕ
 units n = cond (ltb n (2 ^ 47)) (n * 65536) (2 ^ 63 - 1)
 
@@ -13,7 +13,7 @@ unfoldable pub lowFirst : ℕ → ℕ → List ℕ
 lowFirst zero n = []
 lowFirst (suc k) n = n % 256 ∷ lowFirst k (n / 256)
 
--- what is stored for so many nanoseconds
+-- what is stored for so many nanoseconds (RULES 7.5)
 unfoldable pub delay : ℕ → List ℕ
 delay n = lowFirst 8 (units n)
 

@@ -1,4 +1,4 @@
--- Document 01 as definitions, in the order to read them in.
+-- The rules, docs/RULES.md, as definitions, in the order to read them in.
 pub mod Octets
 pub mod Checks
 pub mod Table

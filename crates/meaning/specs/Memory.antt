@@ -9,7 +9,7 @@ use Rattle.meaning.specs.Table.{Row, rowAt, roomAt, byPort, entryCount, 
 use Rattle.meaning.specs.Wire.{expiriesMost}
 use Rattle.meaning.specs.Block.{permits}
 
--- ---- a cell: name (2), flags (1), zero (1), length (2)
+-- ---- a cell and its fields (RULES 3.4)
 
 abbrev pub cellAt : ℕ → ℕ
 cellAt k = 6 * k
@@ -20,7 +20,7 @@ cell m k = part m (cellAt k) 6
 unfoldable pub room : List ℕ → ℕ → List ℕ
 room m k = part m (roomAt k) (rowAt k .most)
 
--- flags: 1 present, 2 subscribed, 4 pending; no other bit
+-- the three flags (RULES 3.5); there is no other bit
 unfoldable pub isPresent : List ℕ → Bool
 isPresent c = eqb (octet c 2 % 2) 1
 
@@ -50,7 +50,7 @@ pending m k = isPending (cell m k)
 unfoldable pub body : List ℕ → ℕ → List ℕ
 body m k = take (size (cell m k)) (room m k)
 
--- ---- the timer: 0 idle or 1 waiting, then the expiries
+-- ---- the timer: its state, then the expiries (RULES 3.6, 3.7)
 
 unfoldable pub timer : List ℕ → List ℕ
 timer m = part m timerAt 2
@@ -88,7 +88,7 @@ putRoom m k v = splice m (roomAt k) (roomOf k v)
 unfoldable pub put : List ℕ → ℕ → ℕ → List ℕ → List ℕ
 put m k f v = putRoom (putCell m k f (length v)) k v
 
--- a value made present, its marks as they were
+-- a value made present, its marks as they were (RULES 11.10)
 unfoldable pub store : List ℕ → ℕ → List ℕ → List ℕ
 store m k v = put m k (flags true (subscribed m k) (pending m k)) v
 
@@ -99,9 +99,9 @@ setMarks m k s q = putCell m k (flags (present m k) s q) (size (cell m k))
 unfoldable pub setTimer : List ℕ → ℕ → ℕ → List ℕ
 setTimer m w n = splice m timerAt (w ∷ n ∷ [])
 
--- ---- sound memory
+-- ---- sound memory (RULES 5)
 
--- the cell c and the room s are right for the row r
+-- the cell c and the room s are right for the row r (RULES 5.2 to 5.9, 5.11, 5.14)
 unfoldable pub entrySound : Row → List ℕ → List ℕ → Bool
 entrySound r c s =
     every
@@ -117,7 +117,7 @@ entrySound r c s =
 unfoldable pub entriesSound : List ℕ → Bool
 entriesSound m = below entryCount (λ k. entrySound (rowAt k) (cell m k) (room m k))
 
--- 0004 to 0007 are all present
+-- the four values of a block are there (RULES 5.12)
 unfoldable pub fourPresent : List ℕ → Bool
 fourPresent m =
     every
@@ -127,7 +127,7 @@ fourPresent m =
     ∷ present m adminCycleTime
     ∷ [])
 
--- waiting with 0 to 4 expiries, or idle with none
+-- waiting with 0 to 4 expiries, or idle with none (RULES 5.13)
 unfoldable pub timerSound : List ℕ → Bool
 timerSound c = cond (eqb (octet c 0) 1) (leb (octet c 1) expiriesMost) (eqb (octet c 0) 0 && eqb (octet c 1) 0)
 
@@ -142,7 +142,7 @@ sound m =
     ∷ timerSound (timer m)
     ∷ [])
 
--- ---- fresh memory: 0003 holds 00, 000B holds 00000040, all else absent, unsubscribed and idle
+-- ---- fresh memory (RULES 6.1 to 6.3)
 
 -- the first k entries named, and absent
 unfoldable pub absent : ℕ → List ℕ → List ℕ

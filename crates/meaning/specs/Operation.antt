@@ -15,7 +15,7 @@ pub data Op : Type 0 where
   subscribe : ℕ → Op
   unsubscribe : ℕ → Op
 
--- what follows a code: nothing; a name (2); a name (2), a length (2) and a value. Any other code is malformed
+-- what follows a code: nothing; a name; a name, a length and a value (RULES 10.4 to 10.8). Others are malformed (RULES 10.9)
 pub data Shape : Type 0 where
   alone : Op → Shape
   named : (ℕ → Op) → Shape
@@ -62,7 +62,7 @@ parseIn zero (c ∷ s) = none
 parseIn (suc n) [] = some []
 parseIn (suc n) (c ∷ s) = follow (shaped (shape c) s) (λ r. parseIn n r)
 
--- the operations of a list of octets, handed out one after another; none where one is malformed or cut short
+-- the operations of a list of octets (RULES 10.10); none where one is malformed or cut short
 unfoldable pub parse : List ℕ → Option (List Op)
 parse s = parseIn (length s) s
 

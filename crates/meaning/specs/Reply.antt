@@ -51,7 +51,7 @@ held n v = record { name = n; value = v } ∷ []
 abbrev pub failed : ℕ → ℕ → List Failed
 failed n c = record { name = n; cause = c } ∷ []
 
--- the record of an answer; an update of more than 255 octets is a long one
+-- the record of an answer; an update of more than 255 octets is a long one (RULES 12.9, 12.11)
 unfoldable pub recordOf : Answer → Records
 recordOf names = kinds true [] [] [] [] []
 recordOf (value n v) = kinds false (held n v) [] [] [] []
@@ -67,7 +67,7 @@ gathered (a ∷ as′) = joined (recordOf a) (gathered as′)
 
 -- ---- octets
 
--- name (2), length (2), value; with a length of one octet; name (2), cause (1)
+-- a value with a length of two octets (RULES 12.6), with one of one octet (RULES 12.9); a cause (RULES 12.7)
 unfoldable pub heldOctets : Held → List ℕ
 heldOctets h = be16 (h .name) ++ (be16 (length (h .value)) ++ h .value)
 
@@ -77,29 +77,29 @@ shortOctets h = be16 (h .name) ++ (length (h .value) ∷ h .value)
 unfoldable pub failedOctets : Failed → List ℕ
 failedOctets f = be16 (f .name) ++ (f .cause ∷ [])
 
--- contents of element 71, and of a notification
+-- contents of element 71, and of a notification (RULES 12.6, 12.7, 14.2)
 unfoldable pub readContents : Records → List ℕ
 readContents r =
     length (r .values) ∷ flat heldOctets (r .values)
     ++ (length (r .readErrors) ∷ flat failedOctets (r .readErrors))
 
--- a length (2) and the long updates, only if there are any
+-- a length and the long updates, only if there are any (RULES 12.11, 12.12)
 unfoldable pub longOctets : List Held → List ℕ
 longOctets [] = []
 longOctets (h ∷ hs) = be16 (length (flat heldOctets (h ∷ hs))) ++ flat heldOctets (h ∷ hs)
 
--- contents of element 72
+-- contents of element 72 (RULES 12.9 to 12.12)
 unfoldable pub setContents : Records → List ℕ
 setContents r =
     length (r .updates) ∷ flat shortOctets (r .updates)
     ++ (length (r .updateErrors) ∷ flat failedOctets (r .updateErrors)
     ++ longOctets (r .longUpdates))
 
--- contents of element 70
+-- contents of element 70 (RULES 12.4)
 unfoldable pub allNames : List ℕ
 allNames = flat (λ (r : Row). be16 (r .name)) rows
 
--- an element where it is needed: identifier, length (2), contents
+-- an element where it is needed (RULES 12.2)
 unfoldable pub element : ℕ → Bool → List ℕ → List ℕ
 element id true c = id ∷ be16 (length c) ++ c
 element id false c = []
@@ -116,7 +116,7 @@ complete r =
     ++ (element elementStatus (anyRead r) (readContents r)
     ++ element elementUpdateResult (anySet r) (setContents r))
 
--- no count is over what its octet can tell
+-- no count is over what its octet can tell (RULES 12.14)
 unfoldable pub countsFit : Records → Bool
 countsFit r =
     every

@@ -21,9 +21,9 @@ pub data Answer : Type 0 where
   updateError : ℕ → ℕ → Answer
   silent : Answer
 
--- ---- read
+-- ---- read (RULES 11.1 to 11.4)
 
--- the sums of the running block for 8001, else the value
+-- the sums of what runs where 8001 is read, else the value
 unfoldable pub shown : List ℕ → ℕ → List ℕ
 shown m k = cond (eqb k commit) (sums (body m commit)) (body m k)
 
@@ -35,7 +35,7 @@ readChecks m n =
 unfoldable pub readAnswer : List ℕ → ℕ → Answer
 readAnswer m n = whenPassed (firstFailed (readChecks m n)) (value n (shown m (place n))) (readError n)
 
--- ---- set
+-- ---- set (RULES 11.5 to 11.12), and commit (RULES 11.13 to 11.19)
 
 -- the block that the four values make
 unfoldable pub block : List ℕ → List ℕ
@@ -53,7 +53,7 @@ commits m v =
 unfoldable pub permitted : List ℕ → ℕ → List ℕ → Bool
 permitted m k v = cond (eqb k commit) (commits m v) (permits (rowAt k) v)
 
--- cause 01, name not in the table; 6F, not set by the controller; 02, length or value rule or commit not met
+-- the causes of RULES 11.6 to 11.8, in this order
 unfoldable pub setChecks : List ℕ → ℕ → List ℕ → Checks
 setChecks m n v =
     check causeNotSupported (listed n)
@@ -70,7 +70,7 @@ stored m k v = cond (eqb k commit) (block m) v
 unfoldable pub setMemory : List ℕ → ℕ → List ℕ → List ℕ
 setMemory m n v = whenPassed (firstFailed (setChecks m n v)) (store m (place n) (stored m (place n) v)) (λ cause. m)
 
--- ---- subscribe and unsubscribe: nothing on unlisted names
+-- ---- subscribe and unsubscribe (RULES 11.21 to 11.24)
 
 unfoldable pub subscribeMemory : List ℕ → ℕ → List ℕ
 subscribeMemory m n = cond (listed n) (setMarks m (place n) true (pending m (place n))) m
@@ -78,7 +78,7 @@ subscribeMemory m n = cond (listed n) (setMarks m (place n) true (pending m (pla
 unfoldable pub unsubscribeMemory : List ℕ → ℕ → List ℕ
 unsubscribeMemory m n = cond (listed n) (setMarks m (place n) false false) m
 
--- ---- an operation, and one after another
+-- ---- an operation, and one after another (RULES 10.12)
 
 unfoldable pub step : List ℕ → Op → List ℕ
 step m capabilities = m

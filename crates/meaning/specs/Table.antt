@@ -1,11 +1,11 @@
--- The 19 parameters in the order of the table of contents: name, least and greatest length, who sets it, its value rule.
+-- The 19 parameters in table order (RULES 3.10): name, least and greatest length, who sets it, its value rule (RULES 4.3 to 4.21).
 use Prim.Native.Nat.{ℕ, suc, _+_}
 use mathlib.Core.Bool.{Bool, true, false, cond}
 use mathlib.Core.List.{List, [], _∷_}
 use lib.ListN.{getD, take}
 use lib.Dec.{eqb, ltb}
 
--- who sets a parameter
+-- who sets a parameter (RULES 4.2)
 pub data Owner : Type 0 where
   controller port nobody : Owner
 
@@ -116,7 +116,7 @@ timerAt = 114
 abbrev pub bodiesAt : ℕ
 bodiesAt = 116
 
--- the rooms of some rows, each of its largest length, without gaps
+-- the octets that the rooms of some rows take, side by side (RULES 3.9)
 unfoldable pub rooms : List Row → ℕ
 rooms [] = 0
 rooms (r ∷ rs) = r .most + rooms rs

@@ -1,1 +1,1 @@
-// No code: this crate is document 01 as definitions, in specs/, and the laws about them, in proofs/.
+// No code: this crate is the rules, docs/RULES.md, as definitions, in specs/, and the laws about them, in proofs/.

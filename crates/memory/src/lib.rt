@@ -110,7 +110,7 @@ pub fn expiries(m: &[u8]) -> u8
     m[table::EXPIRIES_AT]
 }
 
-// Whether 0004 to 0007 are all present.
+// Whether the four values of a block are there (RULES 5.12).
 pub fn four_present(m: &[u8]) -> bool
     requires { ⌜ length (now m) ≡ memoryLength ⌝ }
     ensures { λ r. ⌜ r ≡ fourPresent (now (m .entry)) ⌝ }

@@ -1,4 +1,4 @@
-// The operations of a command, handed out one after another from its list of octets by a reader, and whether a list is whole.
+// The operations of a command, handed out from its list of octets by a reader (RULES 10.10), and whether a list is whole.
 // What is handed out is what `meaning` finds at the position.
 ghost use mathlib.Core.Path.{_≡_};
 ghost use Rattle.meaning.specs.Operation.{parse, isSome};

@@ -1,5 +1,5 @@
 // Schedules: which value keeps which rule, the two sums over a block, its form and fit, a commit's conditions.
-// A block is the values of 0004, 0005, 0006 and 0007 joined; every answer is that of a definition of `meaning`.
+// A block is four values one behind another (RULES 8.1); every answer is that of a definition of `meaning`.
 ghost use Prim.Native.Nat.{ℕ, _+_, _*_, _%_, _≤_};
 ghost use mathlib.Core.Path.{_≡_};
 ghost use mathlib.Core.Bool.{true, _&&_};
@@ -116,7 +116,7 @@ pub fn form_and_fit(b: &[u8]) -> bool
 }
 
 // Form and fit of the block that a base time and these values make, each permitted by its row. They keep their rules, so what
-// is left is how they fit one another: 0005 holds n, n is at least 1, the intervals fit the cycle. No base time enters that.
+// is left is how they fit one another (RULES 8.3 to 8.5). No base time enters that.
 pub fn fit_together(count: &[u8], list: &[u8], ratio: &[u8]) -> bool
     requires { ⌜ (permits (rowAt adminControlListLength) (now count) ≡ true) × (permits (rowAt adminControlList) (now list) ≡ true) × (permits (rowAt adminCycleTime) (now ratio) ≡ true) ⌝ }
     ensures { λ r. ⌜ ((base : List ℕ) → permits (rowAt adminBaseTime) base ≡ true → r ≡ formAndFit (joinedBlock base (now (count .entry)) (now (list .entry)) (now (ratio .entry)))) ⌝ }

@@ -81,7 +81,7 @@ pub struct Places {
     pub long_updates: usize,
 }
 
-// The value that a read of a place shows: for 8001 the two sums of the running block.
+// The value that a read of a place shows (RULES 11.1, 11.2).
 fn write_value(
     m: &[u8],
     k: usize,

@@ -12,7 +12,7 @@ ghost use Rattle.meaning.specs.Block.{permits};
 ghost use Rattle.meaning.specs.Memory.{cell, isPresent, size, timerSound, sound};
 ghost use Rattle.soundness.specs.Fields.{cellSound, fieldsAt, tailAt, allFields, allTails, acrossSound};
 
-// Name, zero octet and flags of a cell: no other flag bit, and pending only with subscribed and on names set by the port.
+// Name, zero octet and flags of a cell (RULES 5.2 to 5.6).
 fn cell_sound(k: usize, c: &[u8]) -> bool
     requires { ⌜ length (now c) ≡ 6 ⌝ }
     ensures { λ r. ⌜ r ≡ cellSound (rowAt k) (now (c .entry)) ⌝ }
@@ -133,7 +133,7 @@ fn timer_sound(waiting: u8, expiries: u8) -> bool
     }
 }
 
-// What is asked across entries: 0003 and 000B present, a running block only where 0004 to 0007 are, the timer's ranges.
+// What is asked across entries (RULES 5.10, 5.12) and of the timer (RULES 5.13).
 fn across_sound(m: &[u8]) -> bool
     requires { ⌜ length (now m) ≡ memoryLength ⌝ }
     ensures { λ r. ⌜ r ≡ acrossSound (now (m .entry)) ⌝ }

@@ -1,4 +1,4 @@
-// The table of parameters: the 19 rows in the order of the table of contents, the place of a name, what a row permits.
+// The table of parameters: the 19 rows in table order (RULES 3.10), the place of a name, what a row permits.
 // Every answer is that of a definition of `meaning`.
 ghost use Prim.Native.Nat.{_+_, _≤_};
 ghost use mathlib.Core.Path.{_≡_};

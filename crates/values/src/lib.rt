@@ -82,7 +82,7 @@ pub fn fits_cycle(sum: u64, v: &[u8]) -> bool
     sum <= numerator * SECOND / denominator
 }
 
-// One entry of a control list and its interval: an operation 0, 1 or 2; the octet 5; an interval that is not 0.
+// One entry of a control list and its interval: what the entry has to hold (RULES 4.22 to 4.25).
 fn entry_ok(e: &[u8], d: u64) -> bool
     requires { ⌜ (length (now e) ≡ 7) × (d ≡ interval (now e)) ⌝ }
     ensures { λ r. ⌜ r ≡ entryOk (now (e .entry)) ⌝ }

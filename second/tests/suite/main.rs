@@ -1,6 +1,7 @@
 //! All tests of the endpoint and its programs, in one program of their own.
 
 mod bridge;
+mod clauses;
 mod compare;
 mod cut_law;
 mod documents;
