@@ -1,0 +1,210 @@
+//! The program `measure`: what it is asked for, and the one table that it prints.
+
+pub mod assembly;
+mod fault;
+pub mod gate;
+pub mod processor;
+pub mod stack;
+pub mod table;
+pub mod time;
+pub mod worst;
+
+use std::fs;
+use std::io::{self, Write};
+
+use crate::arguments::number;
+use crate::traffic::measured::{Limit, Stream, STREAMS};
+use fault::told;
+use gate::{Gate, Part};
+use table::{Row, Table};
+use time::SEED;
+
+/// How the program is called.
+pub const USAGE: &str =
+    "usage: measure [--worst] [--stack CALL LIBRARY] [--gate LOG] BRIDGE SECOND [COUNT]; \
+BRIDGE is the path of the bridge that is measured, SECOND of the one that it is measured against, \
+COUNT how many of the shortest messages a stream has (1000000 if left out), LIBRARY a static \
+library for x86-64 that has the message call under the name CALL, LOG what a gate printed; --worst \
+also searches for the worst message";
+
+/// Messages of a stream where no count is given.
+const COUNT: u64 = 1_000_000;
+/// Octets of stack that a message call may take: the working copy, and all else.
+const STACK: [i64; 2] = [2_100, 1_024];
+/// Seconds that the gate may take.
+const GATE: f64 = 600.0;
+
+/// What to measure.
+#[derive(Debug, PartialEq, Eq)]
+pub struct Plan {
+    /// Paths of the bridge and of the second one.
+    pub programs: [String; 2],
+    /// Messages of a stream of the shortest; other streams have a part of it.
+    pub count: u64,
+    /// Whether the worst message is searched for.
+    pub worst: bool,
+    /// The call whose stack is to be read.
+    pub stack: Option<Exported>,
+    /// Path of what a gate printed.
+    pub gate: Option<String>,
+}
+
+/// A call in a library.
+#[derive(Debug, PartialEq, Eq)]
+pub struct Exported {
+    /// Its name.
+    pub call: String,
+    /// The library's path.
+    pub library: String,
+}
+
+impl Plan {
+    /// Reads the arguments.
+    pub fn parse(arguments: &[String]) -> Result<Plan, String> {
+        let (mut worst, mut stack, mut gate) = (false, None, None);
+        let mut rest = arguments;
+        loop {
+            match rest {
+                [word, behind @ ..] if word == "--worst" && !worst => {
+                    worst = true;
+                    rest = behind;
+                }
+                [word, call, library, behind @ ..] if word == "--stack" && stack.is_none() => {
+                    stack = Some(Exported {
+                        call: call.clone(),
+                        library: path_of(library),
+                    });
+                    rest = behind;
+                }
+                [word, log, behind @ ..] if word == "--gate" && gate.is_none() => {
+                    gate = Some(log.clone());
+                    rest = behind;
+                }
+                _ => break,
+            }
+        }
+        let (programs, count) = programs_and_count(rest)?;
+        Ok(Plan {
+            programs,
+            count,
+            worst,
+            stack,
+            gate,
+        })
+    }
+}
+
+/// The arguments after the options.
+fn programs_and_count(words: &[String]) -> Result<([String; 2], u64), String> {
+    let (bridge, second, count) = match words {
+        [word, ..] if word.starts_with("--") => return Err(USAGE.into()),
+        [bridge, second] => (bridge, second, COUNT),
+        [bridge, second, count] => (bridge, second, number("COUNT", count)?),
+        _ => return Err(USAGE.into()),
+    };
+    if count == 0 || count == u64::MAX {
+        return Err(format!("COUNT cannot be {count}"));
+    }
+    Ok(([bridge, second].map(|path| path_of(path)), count))
+}
+
+/// A path that means a file wherever it is used: a bare name would be looked for on the PATH when it
+/// is run, and one that begins with a dash would be an option of the program that is handed it.
+fn path_of(word: &str) -> String {
+    match word.starts_with(['/', '.']) {
+        true => word.into(),
+        false => format!("./{word}"),
+    }
+}
+
+/// Measures, and prints the table. An error is one of `output`, or tells what cannot be read, run
+/// or written. Files are read first, since runs take long.
+pub fn run<W: Write>(plan: &Plan, output: &mut W) -> io::Result<()> {
+    let stack = plan.stack.as_ref().map(stack_row).transpose()?;
+    let gate = plan.gate.as_deref().map(gate_rows).transpose()?;
+    let mut rows = time_rows(plan)?;
+    rows.extend(stack);
+    rows.extend(gate.into_iter().flatten());
+    write!(output, "{}", Table(rows))?;
+    output.flush()
+}
+
+/// The bridge's times to those of the second one, or why they cannot be compared here.
+fn time_rows(plan: &Plan) -> io::Result<Vec<Row>> {
+    let what = |stream: &Stream| format!("time to the second's: {}", stream.what);
+    if let Some(why) = processor::obstacle(&plan.programs)? {
+        let streams = STREAMS.iter().map(|stream| (what(stream), stream.limit));
+        let goals = worst::GOALS.iter().filter(|_| plan.worst);
+        let all = streams.chain(goals.map(|goal| (goal.to_string(), Limit::Any)));
+        let rows = all.map(|(what, limit)| Row::untimed(what, limit, &why));
+        return Ok(rows.collect());
+    }
+    let row = |stream: &Stream| {
+        let messages = (plan.count / stream.one_in).max(1);
+        let frames = stream.before() + messages;
+        let times = time::measure(&plan.programs, |sink| stream.write(SEED, frames, sink))?;
+        Ok(Row::timed(what(stream), stream.limit, messages, &times))
+    };
+    let mut rows: Vec<Row> = STREAMS.iter().map(row).collect::<io::Result<_>>()?;
+    if plan.worst {
+        rows.extend(worst::rows(&plan.programs, plan.count)?);
+    }
+    Ok(rows)
+}
+
+fn stack_row(exported: &Exported) -> io::Result<Row> {
+    let Exported { call, library } = exported;
+    let deepest = stack::deepest(call, &stack::disassembly(library)?).map_err(|why| {
+        let what = format!("the stack cannot be read off {library:?}: {why}");
+        io::Error::other(what)
+    })?;
+    let octets = deepest.octets();
+    let [copy, beside] = STACK;
+    Ok(Row {
+        what: "stack of the message call to its limit".into(),
+        ratio: Some(octets as f64 / (copy + beside) as f64),
+        limit: Some(1.0),
+        each: None,
+        from: format!("{octets} of {copy} + {beside} octets: {deepest}"),
+    })
+}
+
+fn gate_rows(path: &str) -> io::Result<Vec<Row>> {
+    let log = fs::read(path).map_err(|error| told(format_args!("cannot read {path:?}"), &error))?;
+    let gate = Gate::read(&String::from_utf8_lossy(&log)).map_err(|why| {
+        let what = format!("{path:?} is not what a gate printed that passed: {why}");
+        io::Error::other(what)
+    })?;
+    let from = match gate.whole {
+        Some(_) => format!("{} crates, {} edits", gate.proved, gate.all.edits),
+        None => "not measured: the log has no line 'real' of 'time'".into(),
+    };
+    let first = Row {
+        what: "time of the gate to ten minutes".into(),
+        ratio: gate.whole.map(|seconds| seconds / GATE),
+        limit: Some(1.0),
+        each: None,
+        from,
+    };
+    let share = |part: &Part| share_row(part, gate.all.seconds());
+    let shares = [&gate.all].into_iter().chain(&gate.parts).map(share);
+    Ok([first].into_iter().chain(shares).collect())
+}
+
+/// The share of a crate in the seconds of all crates.
+fn share_row(part: &Part, all: u64) -> Row {
+    let share = |seconds: u64| seconds as f64 / all as f64;
+    let (check, edits) = (share(part.check), share(part.edits_took));
+    let count = match part.edits {
+        0 => String::new(),
+        1 => format!(", 1 edit {edits:.2}"),
+        n => format!(", {n} edits {edits:.2}"),
+    };
+    Row {
+        what: format!("share of {} in the gate", part.name),
+        ratio: Some(share(part.seconds())),
+        limit: None,
+        each: None,
+        from: format!("check {check:.2}{count}"),
+    }
+}
