@@ -1,21 +1,31 @@
 //! The program `compare`: runs two programs on the same traffic and tells where they differ.
 
+mod run;
+
 use std::fmt;
-use std::io::{self, Read, Write};
+use std::io::{self, Write};
 use std::ops::RangeInclusive;
-use std::process::{ChildStdin, Command, ExitStatus, Stdio};
-use std::thread;
+use std::sync::Arc;
 
 use crate::arguments::number;
 use crate::traffic::{self, Kind};
+use run::{Limits, Run};
 
 /// How the program is called.
-pub const USAGE: &str = "usage: compare [frames|script] A B SEEDS [COUNT]; A and B are paths of \
-programs, SEEDS is how many seeds (from 1 on) or a range like 5-9, COUNT how many frames or \
-records a stream has (200 if left out); streams are scripts unless the first word is frames";
+pub const USAGE: &str = "usage: compare [--wait SECONDS] [frames|script] A B SEEDS [COUNT]; A and B \
+are paths of programs, SEEDS is how many seeds (from 1 on) or a range like 5-9, COUNT how many frames \
+or records a stream has (200 if left out), SECONDS how long a program may print nothing before it is \
+killed (10 if left out); streams are scripts unless the first word is frames; it stops after 20 \
+differences";
 
 /// Frames or records of a stream where no count is given.
 const COUNT: u64 = 200;
+/// Seconds without a line after which a program is killed, where none are given.
+const WAIT: u64 = 10;
+/// Differences after which no more are looked for: a program that is wrong is wrong in many lines.
+const MOST: u64 = 20;
+/// Octets of a line and more: the longest line shows a room of 8,192 octets.
+const LINE: u64 = 20_000;
 /// Characters shown of a line, and how many of them before the first that differs.
 const SHOWN: usize = 72;
 const SHOWN_BEFORE: usize = 16;
@@ -31,27 +41,50 @@ pub struct Plan {
     pub seeds: RangeInclusive<u64>,
     /// Frames or records of each stream.
     pub count: u64,
+    /// Seconds in which a program may print nothing.
+    pub wait: u64,
 }
 
 impl Plan {
     /// Reads the arguments.
     pub fn parse(arguments: &[String]) -> Result<Plan, String> {
-        let (kind, rest) = match arguments {
+        let (wait, rest) = match arguments {
+            [word, wait, rest @ ..] if word == "--wait" => (number("SECONDS", wait)?, rest),
+            rest => (WAIT, rest),
+        };
+        let (kind, rest) = match rest {
             [word, rest @ ..] if word == "frames" => (Kind::Frames, rest),
             [word, rest @ ..] if word == "script" => (Kind::Script, rest),
             rest => (Kind::Script, rest),
         };
         let (a, b, seeds, count) = match rest {
+            [word, ..] if word.starts_with("--") => return Err(USAGE.into()),
             [a, b, seeds] => (a, b, seeds, COUNT),
             [a, b, seeds, count] => (a, b, seeds, number("COUNT", count)?),
             _ => return Err(USAGE.into()),
         };
+        if wait == 0 {
+            return Err("SECONDS cannot be 0".into());
+        }
         Ok(Plan {
             kind,
             programs: [a.clone(), b.clone()],
             seeds: parse_seeds(seeds)?,
             count,
+            wait,
         })
+    }
+
+    /// Both programs on the stream of a seed.
+    fn runs(&self, seed: u64) -> io::Result<[Run; 2]> {
+        let stream = Arc::new(traffic::stream(self.kind, seed, self.count));
+        let octets = self.count.saturating_add(1).saturating_mul(LINE);
+        let limits = Limits {
+            wait: self.wait,
+            octets: octets.try_into().unwrap_or(usize::MAX),
+        };
+        let [a, b] = &self.programs;
+        Ok([Run::of(a, &stream, limits)?, Run::of(b, &stream, limits)?])
     }
 }
 
@@ -73,6 +106,8 @@ pub struct Findings {
     pub lines: u64,
     /// Differences printed.
     pub differences: u64,
+    /// The seed at which it was stopped, since there were enough differences.
+    pub stopped: Option<u64>,
 }
 
 impl fmt::Display for Findings {
@@ -81,11 +116,16 @@ impl fmt::Display for Findings {
             streams,
             lines,
             differences,
+            stopped,
         } = self;
         write!(
             f,
             "{streams} streams, {lines} lines, {differences} differences"
-        )
+        )?;
+        match stopped {
+            Some(seed) => write!(f, "; stopped at seed {seed}, more are not told"),
+            None => Ok(()),
+        }
     }
 }
 
@@ -94,78 +134,25 @@ impl fmt::Display for Findings {
 pub fn run<W: Write>(plan: &Plan, output: &mut W) -> io::Result<Findings> {
     let mut findings = Findings::default();
     for seed in plan.seeds.clone() {
-        let stream = traffic::stream(plan.kind, seed, plan.count);
-        let [a, b] = &plan.programs;
-        let runs = [Run::of(a, &stream)?, Run::of(b, &stream)?];
-        let differences = differences(&runs, plan.count);
-        for (line, what) in &differences {
+        let runs = plan.runs(seed)?;
+        let mut differences = differences(&runs, plan.count).into_iter();
+        let left = MOST - findings.differences;
+        for (line, what) in differences.by_ref().take(left as usize) {
             writeln!(output, "seed {seed} line {line}: {what}")?;
+            findings.differences += 1;
         }
         let [a, b] = runs.map(|run| run.lines().count() as u64);
         findings.streams += 1;
         findings.lines += a.max(b);
-        findings.differences += differences.len() as u64;
+        let more = differences.len() > 0 || seed < *plan.seeds.end();
+        if findings.differences == MOST && more {
+            findings.stopped = Some(seed);
+            break;
+        }
     }
     writeln!(output, "{findings}")?;
     output.flush()?;
     Ok(findings)
-}
-
-/// What a program has printed, and how it ended if not well.
-struct Run {
-    output: Vec<u8>,
-    fault: Option<String>,
-}
-
-impl Run {
-    fn of(program: &str, input: &[u8]) -> io::Result<Run> {
-        let cannot = |error: io::Error| {
-            io::Error::new(error.kind(), format!("cannot run {program:?}: {error}"))
-        };
-        let mut child = Command::new(program)
-            .stdin(Stdio::piped())
-            .stdout(Stdio::piped())
-            .spawn()
-            .map_err(cannot)?;
-        let stdin = child.stdin.take();
-        let stdout = child.stdout.take();
-        let mut output = Vec::new();
-        thread::scope(|scope| {
-            scope.spawn(|| feed(stdin, input));
-            stdout.map(|mut stdout| stdout.read_to_end(&mut output))
-        })
-        .transpose()?;
-        let status = child.wait()?;
-        let fault = fault(status, &output);
-        Ok(Run { output, fault })
-    }
-
-    fn lines(&self) -> impl Iterator<Item = &[u8]> {
-        let text = self.output.strip_suffix(b"\n").unwrap_or(&self.output);
-        let lines = text.split(|octet| *octet == b'\n');
-        lines.skip(usize::from(self.output.is_empty()))
-    }
-}
-
-/// What is wrong with the end of a run.
-fn fault(status: ExitStatus, output: &[u8]) -> Option<String> {
-    // The status after a `cut` is left to the program, as long as no signal ends it.
-    let cut = output.ends_with(b"\ncut\n") || output == b"cut\n";
-    let ended_well = status.success() || cut && status.code().is_some();
-    if !ended_well {
-        Some(status.to_string())
-    } else if !output.is_empty() && !output.ends_with(b"\n") {
-        Some("the last line is not ended".into())
-    } else {
-        None
-    }
-}
-
-/// A program that ends early does not take all of its input; its lines tell that.
-fn feed(stdin: Option<ChildStdin>, input: &[u8]) {
-    if let Some(mut stdin) = stdin {
-        let _ = stdin.write_all(input);
-    }
 }
 
 /// The differences of two runs, each with its line. A program with too few lines, or with a bad

@@ -10,7 +10,7 @@ impl Dice {
     }
 
     /// Any 64 bits.
-    pub fn next(&mut self) -> u64 {
+    pub fn bits(&mut self) -> u64 {
         self.0 = self.0.wrapping_add(0x9E37_79B9_7F4A_7C15);
         let mut mixed = self.0;
         mixed = (mixed ^ (mixed >> 30)).wrapping_mul(0xBF58_476D_1CE4_E5B9);
@@ -20,7 +20,7 @@ impl Dice {
 
     /// A number from 0 to `count - 1`; 0 where `count` is 0.
     pub fn below(&mut self, count: usize) -> usize {
-        ((u128::from(self.next()) * count as u128) >> 64) as usize
+        ((u128::from(self.bits()) * count as u128) >> 64) as usize
     }
 
     /// A number from `least` to `most`, which is not smaller.
@@ -40,7 +40,7 @@ impl Dice {
 
     /// Any octet.
     pub fn octet(&mut self) -> u8 {
-        self.next() as u8
+        self.bits() as u8
     }
 
     /// Any octets.

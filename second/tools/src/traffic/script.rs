@@ -204,7 +204,7 @@ impl<W: Write> Script<'_, W> {
     }
 
     fn delay(&mut self) -> io::Result<()> {
-        let any = self.dice.next() >> self.dice.below(64);
+        let any = self.dice.bits() >> self.dice.below(64);
         let nanoseconds = match self.dice.below(DELAYS.len() + 4) {
             edge if edge < DELAYS.len() => DELAYS[edge],
             _ => any,

@@ -1,6 +1,7 @@
 //! The streams for measuring: each message of theirs does what its row says.
 
 use std::collections::{BTreeMap, BTreeSet};
+use std::slice;
 
 use kit::{Bench, Reply};
 use tools::traffic::measured::{Stream, STREAMS};
@@ -171,7 +172,7 @@ fn schedules_change_with_each_message() {
             let list = lists.clone().find(|(name, _)| *name == 0x0006).unwrap();
             assert_eq!(list.1.len(), 7 * entries);
             let commit = reply.updates.last().unwrap();
-            assert_eq!(reply.values, [commit.clone()]);
+            assert_eq!(reply.values, slice::from_ref(commit));
             seen.insert(commit.1.clone());
         }
         assert!(seen.len() > 30, "{} different sums", seen.len());
