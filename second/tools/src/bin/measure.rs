@@ -1,4 +1,5 @@
-//! Prints one table: two bridges timed on the same large streams, a call's stack, the gate's time.
+//! Prints one table: two bridges timed on the same large streams, a call's stack, a library's code,
+//! the gate's time.
 
 use std::io::{self, ErrorKind};
 use std::process::ExitCode;
@@ -12,9 +13,14 @@ fn main() -> ExitCode {
         Err(why) => return program::refuse("measure", &why),
     };
     match measure::run(&plan, &mut io::stdout().lock()) {
-        Err(error) if error.kind() != ErrorKind::BrokenPipe => {
-            program::refuse("measure", &error.to_string())
+        Ok(0) => ExitCode::SUCCESS,
+        Ok(over) => {
+            let what = format!("figures over their limits, marked in the table: {over}");
+            program::finish("measure", Err(io::Error::other(what)))
         }
-        result => program::finish("measure", result),
+        Err(error) if error.kind() == ErrorKind::BrokenPipe => {
+            program::finish("measure", Err(error))
+        }
+        Err(error) => program::refuse("measure", &error.to_string()),
     }
 }

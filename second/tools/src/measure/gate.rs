@@ -1,6 +1,10 @@
-//! The time that the gate took for each crate, from the lines that it printed.
+//! The time that the gate took, and what took it, from the lines that it printed.
 
 use std::cmp::Reverse;
+use std::fmt;
+
+/// How many crates are named among those that took longest.
+const DEAREST: usize = 3;
 
 /// What the gate did for a crate.
 #[derive(Debug, Default, PartialEq, Eq)]
@@ -61,6 +65,26 @@ impl Gate {
             all,
             whole: log.lines().rev().find_map(whole),
         })
+    }
+}
+
+impl fmt::Display for Gate {
+    fn fmt(&self, f: &mut fmt::Formatter) -> fmt::Result {
+        let Gate {
+            proved, all, parts, ..
+        } = self;
+        let share = |seconds: u64| seconds as f64 / all.seconds() as f64;
+        write!(
+            f,
+            "of {} seconds of work {proved} proofs {:.2}, {} edits {:.2}; dearest crates ",
+            all.seconds(),
+            share(all.check),
+            all.edits,
+            share(all.edits_took)
+        )?;
+        let dearest = parts.iter().take(DEAREST);
+        let dearest = dearest.map(|part| format!("{} {:.2}", part.name, share(part.seconds())));
+        f.write_str(&dearest.collect::<Vec<_>>().join(", "))
     }
 }
 

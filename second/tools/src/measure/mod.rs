@@ -3,6 +3,7 @@
 pub mod assembly;
 mod fault;
 pub mod gate;
+pub mod library;
 pub mod processor;
 pub mod stack;
 pub mod table;
@@ -15,8 +16,8 @@ use std::io::{self, Write};
 use crate::arguments::number;
 use crate::traffic::measured::{Limit, Stream, STREAMS};
 use fault::told;
-use gate::{Gate, Part};
-use table::{Row, Table};
+use gate::Gate;
+use table::{Figure, Row, Table};
 use time::SEED;
 
 /// How the program is called.
@@ -25,7 +26,7 @@ pub const USAGE: &str =
 BRIDGE is the path of the bridge that is measured, SECOND of the one that it is measured against, \
 COUNT how many of the shortest messages a stream has (1000000 if left out), LIBRARY a static \
 library for x86-64 that has the message call under the name CALL, LOG what a gate printed; --worst \
-also searches for the worst message";
+also searches for the worst message; the status is 1 if a figure is over its limit";
 
 /// Messages of a stream where no count is given.
 const COUNT: u64 = 1_000_000;
@@ -33,6 +34,8 @@ const COUNT: u64 = 1_000_000;
 const STACK: [i64; 2] = [2_100, 1_024];
 /// Seconds that the gate may take.
 const GATE: f64 = 600.0;
+/// What is in the figure for code.
+const CODE: &str = "all sections of text of the library for x86-64, without memcpy and memset";
 
 /// What to measure.
 #[derive(Debug, PartialEq, Eq)]
@@ -43,7 +46,7 @@ pub struct Plan {
     pub count: u64,
     /// Whether the worst message is searched for.
     pub worst: bool,
-    /// The call whose stack is to be read.
+    /// The call whose stack is to be read, in a library whose code is to be counted.
     pub stack: Option<Exported>,
     /// Path of what a gate printed.
     pub gate: Option<String>,
@@ -117,16 +120,19 @@ fn path_of(word: &str) -> String {
     }
 }
 
-/// Measures, and prints the table. An error is one of `output`, or tells what cannot be read, run
-/// or written. Files are read first, since runs take long.
-pub fn run<W: Write>(plan: &Plan, output: &mut W) -> io::Result<()> {
-    let stack = plan.stack.as_ref().map(stack_row).transpose()?;
-    let gate = plan.gate.as_deref().map(gate_rows).transpose()?;
-    let mut rows = time_rows(plan)?;
-    rows.extend(stack);
-    rows.extend(gate.into_iter().flatten());
-    write!(output, "{}", Table(rows))?;
-    output.flush()
+/// Measures, and prints the table; how many of its figures are over their limits. An error is one of
+/// `output`, or tells what cannot be read, run or written. Files are read first, since runs take long.
+pub fn run<W: Write>(plan: &Plan, output: &mut W) -> io::Result<usize> {
+    let library = plan.stack.as_ref().map(library_rows).transpose()?;
+    let gate = plan.gate.as_deref().map(gate_row).transpose()?;
+    let mut rows = vec![Row::plain("processor", Figure::None, processor::own())];
+    rows.extend(time_rows(plan)?);
+    rows.extend(library.into_iter().flatten());
+    rows.extend(gate);
+    let table = Table(rows);
+    write!(output, "{table}")?;
+    output.flush()?;
+    Ok(table.over())
 }
 
 /// The bridge's times to those of the second one, or why they cannot be compared here.
@@ -152,59 +158,47 @@ fn time_rows(plan: &Plan) -> io::Result<Vec<Row>> {
     Ok(rows)
 }
 
-fn stack_row(exported: &Exported) -> io::Result<Row> {
+/// The stack of the message call, and the code of all calls.
+fn library_rows(exported: &Exported) -> io::Result<[Row; 2]> {
     let Exported { call, library } = exported;
-    let deepest = stack::deepest(call, &stack::disassembly(library)?).map_err(|why| {
-        let what = format!("the stack cannot be read off {library:?}: {why}");
+    let listing = library::listing(library)?;
+    let cannot = |what: &str, why: String| {
+        let what = format!("the {what} cannot be read off {library:?}: {why}");
         io::Error::other(what)
-    })?;
-    let octets = deepest.octets();
+    };
+    let deepest = stack::deepest(call, &listing).map_err(|why| cannot("stack", why))?;
+    let code = library::code(&listing).map_err(|why| cannot("code", why))?;
     let [copy, beside] = STACK;
-    Ok(Row {
-        what: "stack of the message call to its limit".into(),
-        ratio: Some(octets as f64 / (copy + beside) as f64),
-        limit: Some(1.0),
-        each: None,
-        from: format!("{octets} of {copy} + {beside} octets: {deepest}"),
-    })
+    let stack = Figure::Octets(deepest.octets(), Some(copy + beside));
+    let limit = format!("{copy} for the working copy and {beside} beside it");
+    Ok([
+        Row::plain(
+            "stack of the message call",
+            stack,
+            format!("limit {limit}; {deepest}"),
+        ),
+        Row::plain(
+            "code of the five calls",
+            Figure::Octets(code, None),
+            CODE.into(),
+        ),
+    ])
 }
 
-fn gate_rows(path: &str) -> io::Result<Vec<Row>> {
+fn gate_row(path: &str) -> io::Result<Row> {
     let log = fs::read(path).map_err(|error| told(format_args!("cannot read {path:?}"), &error))?;
     let gate = Gate::read(&String::from_utf8_lossy(&log)).map_err(|why| {
         let what = format!("{path:?} is not what a gate printed that passed: {why}");
         io::Error::other(what)
     })?;
-    let from = match gate.whole {
-        Some(_) => format!("{} crates, {} edits", gate.proved, gate.all.edits),
+    let time = match gate.whole {
+        Some(seconds) => format!("{seconds:.0} seconds"),
         None => "not measured: the log has no line 'real' of 'time'".into(),
     };
-    let first = Row {
-        what: "time of the gate to ten minutes".into(),
-        ratio: gate.whole.map(|seconds| seconds / GATE),
-        limit: Some(1.0),
-        each: None,
-        from,
-    };
-    let share = |part: &Part| share_row(part, gate.all.seconds());
-    let shares = [&gate.all].into_iter().chain(&gate.parts).map(share);
-    Ok([first].into_iter().chain(shares).collect())
-}
-
-/// The share of a crate in the seconds of all crates.
-fn share_row(part: &Part, all: u64) -> Row {
-    let share = |seconds: u64| seconds as f64 / all as f64;
-    let (check, edits) = (share(part.check), share(part.edits_took));
-    let count = match part.edits {
-        0 => String::new(),
-        1 => format!(", 1 edit {edits:.2}"),
-        n => format!(", {n} edits {edits:.2}"),
-    };
-    Row {
-        what: format!("share of {} in the gate", part.name),
-        ratio: Some(share(part.seconds())),
-        limit: None,
-        each: None,
-        from: format!("check {check:.2}{count}"),
-    }
+    let ratio = gate.whole.map(|seconds| seconds / GATE);
+    Ok(Row::plain(
+        "time of the gate to ten minutes",
+        Figure::Ratio(ratio, 1.0),
+        format!("{time}; {gate}"),
+    ))
 }

@@ -1,7 +1,7 @@
-//! For which processor programs are compiled, as the heads of their files tell.
+//! The processor that this machine has, and those that programs are compiled for.
 
 use std::env;
-use std::fs::File;
+use std::fs::{self, File};
 use std::io::{self, Read};
 use std::path::Path;
 
@@ -12,6 +12,36 @@ const HEAD: usize = 20;
 /// What such a file says of the order of octets in its numbers.
 const LOW_FIRST: u8 = 1;
 const HIGH_FIRST: u8 = 2;
+
+/// Where Linux tells of the machine's processors, each thing in a line of a word, a colon and a value.
+const INFORMATION: &str = "/proc/cpuinfo";
+/// The words that say which processor it is: the first on some machines, the others on some.
+const WORDS: [&str; 3] = ["model name", "CPU implementer", "CPU part"];
+
+/// This machine's processor.
+pub fn own() -> String {
+    let information = fs::read_to_string(INFORMATION).unwrap_or_default();
+    described(env::consts::ARCH, &information)
+}
+
+/// A processor in words: for what it is compiled, what is told of the first core, how many there are.
+pub fn described(architecture: &str, information: &str) -> String {
+    let lines = information.lines().filter_map(|line| line.split_once(':'));
+    let lines: Vec<_> = lines
+        .map(|(word, value)| (word.trim(), value.trim()))
+        .collect();
+    let told = WORDS.iter().filter_map(|word| {
+        let (word, value) = lines.iter().find(|(told, _)| told == word)?;
+        Some(format!("{word} {value}"))
+    });
+    let mut words: Vec<String> = [architecture.into()].into_iter().chain(told).collect();
+    let cores = lines
+        .iter()
+        .filter(|(word, _)| *word == "processor")
+        .count();
+    words.extend((cores > 0).then(|| format!("cores {cores}")));
+    words.join(", ")
+}
 
 /// What keeps the times of a bridge and the second one from being compared on this machine. One for
 /// another processor is run by an emulator, if at all, and what is not compiled may start one.

@@ -2,40 +2,13 @@
 
 use std::collections::HashMap;
 use std::fmt;
-use std::io::{self, ErrorKind};
-use std::process::Command;
 
 use super::assembly::{self, Function, Leads, Made, Step};
-use super::fault::told;
 
-/// Programs that disassemble, in the order in which they are tried.
-const TOOLS: [&str; 2] = ["llvm-objdump", "objdump"];
 /// Functions of the C library that compiled code calls; what these take is not counted.
 const OUTSIDE: [&str; 5] = ["memcpy", "memmove", "memset", "memcmp", "bcmp"];
 /// Octets on the stack when a function begins: the address that it returns to.
 const ENTRY: i64 = 8;
-
-/// The disassembly of a library, with relocations.
-pub fn disassembly(library: &str) -> io::Result<String> {
-    for tool in TOOLS {
-        let mut command = Command::new(tool);
-        command.args(["-d", "-r", "--no-show-raw-insn", library]);
-        let output = match command.output() {
-            Err(error) if error.kind() == ErrorKind::NotFound => continue,
-            other => other.map_err(|error| told(format_args!("cannot run {tool:?}"), &error))?,
-        };
-        if output.status.success() {
-            return Ok(String::from_utf8_lossy(&output.stdout).into());
-        }
-        let said = String::from_utf8_lossy(&output.stderr);
-        let said = said.trim().replace('\n', "; ");
-        let why = format!("{tool} cannot read {library:?}: {said}");
-        return Err(io::Error::other(why));
-    }
-    let tools = TOOLS.join(" nor ");
-    let why = format!("neither {tools} is on the PATH, and the stack is read by one of them");
-    Err(io::Error::other(why))
-}
 
 /// The functions that have octets on the stack where it is deepest, and how many.
 #[derive(Clone, Debug, PartialEq, Eq)]

@@ -42,6 +42,22 @@ fn seconds_are_summed_by_crate() {
     assert_eq!(gate.all, part("all crates", 29, 3, 41));
     assert_eq!((gate.all.seconds(), gate.parts[0].seconds()), (70, 53));
     assert_eq!(gate.whole, Some(90.5));
+    let told = "of 70 seconds of work 2 proofs 0.41, 3 edits 0.59; dearest crates bridge 0.76, octets 0.24";
+    assert_eq!(gate.to_string(), told);
+}
+
+#[test]
+fn the_three_dearest_crates_are_named() {
+    let crates = "\
+rt: table proved (10 s)
+rt: delay proved (40 s)
+rt: input proved (20 s)
+rt: reply proved (30 s)
+4 passed, 0 failed
+";
+    let told = "of 100 seconds of work 4 proofs 1.00, 0 edits 0.00; \
+                dearest crates delay 0.40, reply 0.30, input 0.20";
+    assert_eq!(Gate::read(crates).unwrap().to_string(), told);
 }
 
 #[test]

@@ -2,6 +2,7 @@
 
 mod compare;
 mod gate;
+mod limits;
 mod measure;
 mod stack;
 mod stored;

@@ -5,7 +5,6 @@ use std::process::{Command, Output};
 use std::time::Duration;
 use std::{env, fs};
 
-use tools::measure::table::{Row, Table};
 use tools::measure::time::Times;
 use tools::measure::worst::GOALS;
 use tools::measure::{processor, Exported, Plan};
@@ -15,45 +14,62 @@ use crate::process::{assert_quiet_without_reader, assert_refused, run, text};
 use crate::process::{BRIDGE, MEASURE, RIG};
 use crate::{gate, stack};
 
-/// A folder with what stands in for a program that disassembles.
-const TOOLS: &str = concat!(env!("CARGO_MANIFEST_DIR"), "/tests/tools");
+/// A folder with what stands in for other programs.
+pub const TOOLS: &str = concat!(env!("CARGO_MANIFEST_DIR"), "/tests/tools");
 
 /// A file for a test.
-fn file(name: &str, content: &[u8]) -> String {
+pub fn file(name: &str, content: &[u8]) -> String {
     let path = Path::new(env!("CARGO_TARGET_TMPDIR")).join(name);
     fs::write(&path, content).unwrap();
     path.to_str().unwrap().into()
 }
 
 /// Runs `measure` with another PATH.
-fn on_path(path: &str, arguments: &[&str]) -> Output {
+pub fn on_path(path: &str, arguments: &[&str]) -> Output {
     let mut command = Command::new(MEASURE);
     command.args(arguments).env("PATH", path).output().unwrap()
 }
 
-/// The cells of the table's rows. The table is all that is printed, and its columns are aligned.
-fn rows(output: &Output) -> Vec<[&str; 5]> {
-    assert_eq!(text(&output.stderr), "");
-    assert!(output.status.success());
+/// The cells of the table's rows but the first, which has the processor. The table is all that is
+/// printed, and its columns are aligned. Where figures are marked as over their limits the status is 1.
+pub fn rows(output: &Output) -> Vec<[&str; 5]> {
     let lines: Vec<&str> = text(&output.stdout).lines().collect();
     assert!(lines.iter().all(|line| line.len() == lines[0].len()));
     assert!(lines[1].starts_with("| ---"));
     let cells = lines.into_iter().map(|line| {
         let cells: Vec<&str> = line.split('|').map(str::trim).collect();
-        let ["", what, ratio, limit, each, from, ""] = cells[..] else {
+        let ["", what, measured, limit, each, from, ""] = cells[..] else {
             panic!("{line}");
         };
-        [what, ratio, limit, each, from]
+        [what, measured, limit, each, from]
     });
     let cells: Vec<_> = cells.collect();
-    let heads = ["what", "ratio", "limit", "microseconds a message", "from"];
+    let heads = [
+        "what",
+        "measured",
+        "limit",
+        "microseconds a message",
+        "from",
+    ];
     assert_eq!(cells[0], heads);
-    cells[2..].to_vec()
+    assert_eq!(cells[2], ["processor", "", "", "", &*processor::own()]);
+    let over = cells.iter().filter(|row| row[1].ends_with(" over")).count();
+    let (status, told) = match over {
+        0 => (0, String::new()),
+        over => (
+            1,
+            format!("measure: figures over their limits, marked in the table: {over}\n"),
+        ),
+    };
+    assert_eq!(output.status.code(), Some(status));
+    assert_eq!(text(&output.stderr), told);
+    cells[3..].to_vec()
 }
 
 /// Asserts that a row has the times of two bridges for so many messages.
 fn assert_timed(row: [&str; 5], messages: u64) {
     let [_, ratio, _, each, from] = row;
+    let ratio = ratio.strip_suffix(" over").unwrap_or(ratio);
     let number = |word: &str| word.parse::<f64>().unwrap();
     let (bridge, second) = each.split_once(" (second ").unwrap();
     let second = number(second.strip_suffix(')').unwrap());
@@ -94,11 +110,9 @@ fn one_table_has_all_that_is_asked_for() {
     let rest = rest.iter();
     let rest: Vec<String> = rest.map(|cells| cells.join("; ")).collect();
     let expected = "\
-stack of the message call to its limit; 0.04; 1.00; ; 112 of 2100 + 1024 octets: call 72, part::deep 40
-time of the gate to ten minutes; 0.15; 1.00; ; 2 crates, 3 edits
-share of all crates in the gate; 1.00; ; ; check 0.41, 3 edits 0.59
-share of bridge in the gate; 0.76; ; ; check 0.33, 1 edit 0.43
-share of octets in the gate; 0.24; ; ; check 0.09, 2 edits 0.16";
+stack of the message call; 112 octets; 3124 octets; ; limit 2100 for the working copy and 1024 beside it; call 72, part::deep 40
+code of the five calls; 59 octets; ; ; all sections of text of the library for x86-64, without memcpy and memset
+time of the gate to ten minutes; 0.15; 1.00; ; 90 seconds; of 70 seconds of work 2 proofs 0.41, 3 edits 0.59; dearest crates bridge 0.76, octets 0.24";
     assert_eq!(rest.join("\n"), expected);
 }
 
@@ -108,31 +122,11 @@ fn what_is_not_asked_for_or_not_told_is_left_out() {
     assert_eq!(rows(&output).len(), STREAMS.len());
     let log = file("untimed.log", gate::LOG.replace("real", "").as_bytes());
     let output = run(MEASURE, &["--gate", &log, *BRIDGE, *BRIDGE, "10"], &[]);
-    let why = "not measured: the log has no line 'real' of 'time'";
-    let untimed = ["time of the gate to ten minutes", "-", "1.00", "", why];
-    assert_eq!(rows(&output)[STREAMS.len()], untimed);
-}
-
-#[test]
-fn a_table_is_aligned() {
-    let row = |what: &str, ratio, limit, each, from: &str| Row {
-        what: what.into(),
-        ratio,
-        limit,
-        each,
-        from: from.into(),
-    };
-    let table = Table(vec![
-        row("a", Some(1.0 / 3.0), Some(12.5), Some([0.1, 0.3]), "b"),
-        row("äöü", None, None, None, "some words"),
-    ]);
-    let expected = "\
-| what | ratio | limit | microseconds a message | from       |
-| ---- | ----: | ----: | ---------------------: | ---------- |
-| a    |  0.33 | 12.50 |     0.10 (second 0.30) | b          |
-| äöü  |     - |       |                        | some words |
-";
-    assert_eq!(table.to_string(), expected);
+    let [what, measured, limit, each, from] = rows(&output)[STREAMS.len()];
+    let untimed = ["time of the gate to ten minutes", "-", "1.00", ""];
+    assert_eq!([what, measured, limit, each], untimed);
+    let why = "not measured: the log has no line 'real' of 'time'; of 70 seconds of work 2 ";
+    assert!(from.starts_with(why), "{from}");
 }
 
 #[test]
@@ -245,12 +239,16 @@ fn files_that_tell_nothing() {
     let unknown = stack(&path, "calls", &library);
     let why = format!("the stack cannot be read off {library:?}: it has no function calls");
     assert_eq!(unknown, why);
+    let bare = file("bare.a", stack::LLVM.replace(" .text", " .data").as_bytes());
+    let why =
+        format!("the code cannot be read off {bare:?}: it has no section of text with code in it");
+    assert_eq!(stack(&path, "call", &bare), why);
     let missing = stack(&path, "call", "nowhere.a");
     let why = "llvm-objdump cannot read \"./nowhere.a\": ";
     assert!(missing.starts_with(why), "{missing}");
     let alone = stack("", "call", &library);
     let why =
-        "neither llvm-objdump nor objdump is on the PATH, and the stack is read by one of them";
+        "neither llvm-objdump nor objdump is on the PATH, and the library is read by one of them";
     assert_eq!(alone, why);
     let gate =
         |log: &str| given_up(&run(MEASURE, &["--gate", log, *BRIDGE, *BRIDGE], &[])).to_owned();
@@ -277,6 +275,19 @@ fn the_processor_of_a_program_is_read_off_its_head() {
         None
     );
     assert_eq!(processor::number(b""), None);
+}
+
+#[test]
+fn the_processor_of_the_machine_is_told() {
+    let one = "processor\t: 0\nBogoMIPS\t: 243\nCPU implementer\t: 0x41\nCPU part\t: 0xd0c\n\n";
+    let two = format!("{one}{}", one.replace(": 0\n", ": 1\n"));
+    let told = "aarch64, CPU implementer 0x41, CPU part 0xd0c, cores 2";
+    assert_eq!(processor::described("aarch64", &two), told);
+    let named = "processor\t: 0\nmodel name\t: Some Name: 7 @ 2.00GHz\n";
+    let told = "x86_64, model name Some Name: 7 @ 2.00GHz, cores 1";
+    assert_eq!(processor::described("x86_64", named), told);
+    assert_eq!(processor::described("x86_64", ""), "x86_64");
+    assert!(processor::own().starts_with(env::consts::ARCH));
 }
 
 #[test]

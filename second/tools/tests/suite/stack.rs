@@ -1,11 +1,22 @@
-//! The stack of a call, as `measure` reads it off disassemblies.
+//! The stack of a call and the code of a library, as `measure` reads them off listings.
 
+use tools::measure::library;
 use tools::measure::stack::{deepest, Deepest};
 
 /// As llvm-objdump prints it: `call` has three registers and 40 octets on the stack, calls `deep`
 /// and the C library; `deep` has one register and reaches 24 octets below the stack pointer.
 pub const LLVM: &str = "
 library.a(part.o):\tfile format elf64-x86-64
+
+Sections:
+Idx Name                  Size     VMA              Type
+  0                       00000000 0000000000000000
+  1 .strtab               00000102 0000000000000000
+  2 .text                 00000000 0000000000000000 TEXT
+  3 .text.part::deep      0000000d 0000000000000000 TEXT
+  4 .text.call            0000002e 0000000000000000 TEXT
+  5 .rela.text.call       00000048 0000000000000000
+  6 .rodata.call          00000010 0000000000000000 DATA
 
 Disassembly of section .text.part::deep:
 
@@ -46,6 +57,16 @@ In archive library.a:
 
 part.o:     file format elf64-x86-64
 
+Sections:
+Idx Name          Size      VMA               LMA               File off  Algn
+  0 .text         00000000  0000000000000000  0000000000000000  00000040  2**2
+                  CONTENTS, ALLOC, LOAD, READONLY, CODE
+  1 .text.part::deep 0000000d  0000000000000000  0000000000000000  00000040  2**4
+                  CONTENTS, ALLOC, LOAD, READONLY, CODE
+  2 .text.call    0000002e  0000000000000000  0000000000000000  00000050  2**4
+                  CONTENTS, ALLOC, LOAD, RELOC, READONLY, CODE
+  3 .rodata.call  00000010  0000000000000000  0000000000000000  00000080  2**0
+                  CONTENTS, ALLOC, LOAD, READONLY, DATA
 
 Disassembly of section .text.part::deep:
 
@@ -243,4 +264,36 @@ fn libraries_that_cannot_be_followed_are_refused() {
     // What is not on the way is not read.
     let other = function("other", &["leave", "ret"]);
     assert!(deepest("call", &[LLVM, &other].concat()).is_ok());
+}
+
+#[test]
+fn the_code_is_that_of_all_sections_of_text() {
+    for listing in [LLVM, GNU] {
+        assert_eq!(library::code(listing), Ok(0x0d + 0x2e));
+        // Each part of an archive has sections of its own.
+        let twice = [listing, listing].concat();
+        assert_eq!(library::code(&twice), Ok(2 * (0x0d + 0x2e)));
+        let larger = listing.replace(" 0000002e ", " 0001002e ");
+        assert_eq!(library::code(&larger), Ok(0x1_003b));
+        let plain = listing.replace(" .text         ", " .textual      ");
+        assert_eq!(library::code(&plain), Ok(0x0d + 0x2e));
+    }
+    let one = "  1 .text 000000ff  0000000000000000  0000000000000000  00000040  2**2";
+    assert_eq!(library::code(one), Ok(255));
+}
+
+#[test]
+fn a_listing_without_code_is_refused() {
+    let none = "it has no section of text with code in it";
+    for listing in [
+        "",
+        &LLVM.replace(".text", ".data"),
+        "  1 .text 00000000 0 TEXT",
+    ] {
+        assert_eq!(library::code(listing), Err(none.into()));
+    }
+    for listing in ["  1 .text.call", "  1 .text.call x TEXT"] {
+        let why = "the section .text.call has no size";
+        assert_eq!(library::code(listing), Err(why.into()));
+    }
 }
