@@ -169,9 +169,10 @@ fn a_name_that_stands_nowhere_is_missing() {
 fn a_file_of_tests_that_stands_in_two_packages_is_none() {
     let path = |package: &str, file: &str| format!("second/{package}/tests/suite/{file}.rs");
     assert_eq!(tests("rules"), path("port", "rules"));
-    // Each package has a file 'main'.
-    let several = tests("main");
-    let three = ["port", "programs", "tools"].map(|package| path(package, "main"));
-    assert_eq!(several, three.join(" and "));
-    assert!(!stands("BRIDGE", &several) && stands("BRIDGE", &three[1]));
+    let both = ["programs", "tools"].map(|package| path(package, "process"));
+    assert!(both
+        .iter()
+        .all(|path| stands("BRIDGE", path) || stands("COMPARE", path)));
+    assert_eq!(tests("process"), both.join(" and "));
+    assert!(!stands("BRIDGE", &tests("process")));
 }
