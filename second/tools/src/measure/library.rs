@@ -32,28 +32,23 @@ pub fn listing(library: &str) -> io::Result<String> {
     Err(io::Error::other(why))
 }
 
-/// Octets of code in a listed library: the sizes of all its sections of text. An error tells why they
-/// cannot be read.
-pub fn code(listing: &str) -> Result<i64, String> {
-    let sizes = listing.lines().filter_map(size);
-    let sizes: Vec<i64> = sizes.collect::<Result<_, _>>()?;
-    match sizes.iter().sum() {
-        0 => Err("it has no section of text with code in it".into()),
-        octets => Ok(octets),
-    }
+/// Octets of a listed library in sections of a name, `.text` for code, or of names that go on from it
+/// behind a dot. An error tells which size cannot be read.
+pub fn octets(name: &str, listing: &str) -> Result<i64, String> {
+    listing.lines().filter_map(|line| size(name, line)).sum()
 }
 
-/// The size in a line such as `  4 .text.name  0000001c 0000000000000000 TEXT`; none if the line is not
-/// the head of a section of text.
-fn size(line: &str) -> Option<Result<i64, String>> {
+/// The size in a line such as `  4 .text.call  0000001c 0000000000000000 TEXT`; none if the line is not
+/// the head of a section of that name.
+fn size(name: &str, line: &str) -> Option<Result<i64, String>> {
     let mut words = line.split_whitespace();
     words.next()?.parse::<u32>().ok()?;
-    let name = words.next()?;
-    if name != ".text" && !name.starts_with(".text.") {
+    let section = words.next()?;
+    let rest = section.strip_prefix(name)?;
+    if !rest.is_empty() && !rest.starts_with('.') {
         return None;
     }
-    let size = words
-        .next()
-        .and_then(|size| i64::from_str_radix(size, 16).ok());
-    Some(size.ok_or_else(|| format!("the section {name} has no size")))
+    let size = words.next();
+    let size = size.and_then(|size| i64::from_str_radix(size, 16).ok());
+    Some(size.ok_or_else(|| format!("the section {section} has no size")))
 }

@@ -34,8 +34,6 @@ const COUNT: u64 = 1_000_000;
 const STACK: [i64; 2] = [2_100, 1_024];
 /// Seconds that the gate may take.
 const GATE: f64 = 600.0;
-/// What is in the figure for code.
-const CODE: &str = "all sections of text of the library for x86-64, without memcpy and memset";
 
 /// What to measure.
 #[derive(Debug, PartialEq, Eq)]
@@ -167,20 +165,26 @@ fn library_rows(exported: &Exported) -> io::Result<[Row; 2]> {
         io::Error::other(what)
     };
     let deepest = stack::deepest(call, &listing).map_err(|why| cannot("stack", why))?;
-    let code = library::code(&listing).map_err(|why| cannot("code", why))?;
+    let octets = |name| library::octets(name, &listing).map_err(|why| cannot("code", why));
+    let (code, constants) = (octets(".text")?, octets(".rodata")?);
+    if code == 0 {
+        return Err(cannot("code", "it has no section of text".into()));
+    }
     let [copy, beside] = STACK;
     let stack = Figure::Octets(deepest.octets(), Some(copy + beside));
-    let limit = format!("{copy} for the working copy and {beside} beside it");
+    let limit = format!("limit {copy} for the working copy and {beside} beside it");
+    let sections = "all sections of text for x86-64, without memcpy and memset";
+    let constants = format!("{sections}; constants take {constants} octets more");
     Ok([
         Row::plain(
             "stack of the message call",
             stack,
-            format!("limit {limit}; {deepest}"),
+            format!("{limit}; {deepest}"),
         ),
         Row::plain(
             "code of the five calls",
             Figure::Octets(code, None),
-            CODE.into(),
+            constants,
         ),
     ])
 }

@@ -97,7 +97,7 @@ fn assert_killed(program: &str, why: &str) {
     assert_eq!((status, lines), (Some(1), vec![told, last.into()]));
     let seconds = start.elapsed().as_secs_f64();
     assert!(
-        (1.0..4.5).contains(&seconds),
+        (1.0..25.0).contains(&seconds),
         "{program}: {seconds} seconds"
     );
 }

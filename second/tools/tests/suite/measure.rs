@@ -111,7 +111,7 @@ fn one_table_has_all_that_is_asked_for() {
     let rest: Vec<String> = rest.map(|cells| cells.join("; ")).collect();
     let expected = "\
 stack of the message call; 112 octets; 3124 octets; ; limit 2100 for the working copy and 1024 beside it; call 72, part::deep 40
-code of the five calls; 59 octets; ; ; all sections of text of the library for x86-64, without memcpy and memset
+code of the five calls; 59 octets; ; ; all sections of text for x86-64, without memcpy and memset; constants take 16 octets more
 time of the gate to ten minutes; 0.15; 1.00; ; 90 seconds; of 70 seconds of work 2 proofs 0.41, 3 edits 0.59; dearest crates bridge 0.76, octets 0.24";
     assert_eq!(rest.join("\n"), expected);
 }
@@ -240,8 +240,7 @@ fn files_that_tell_nothing() {
     let why = format!("the stack cannot be read off {library:?}: it has no function calls");
     assert_eq!(unknown, why);
     let bare = file("bare.a", stack::LLVM.replace(" .text", " .data").as_bytes());
-    let why =
-        format!("the code cannot be read off {bare:?}: it has no section of text with code in it");
+    let why = format!("the code cannot be read off {bare:?}: it has no section of text");
     assert_eq!(stack(&path, "call", &bare), why);
     let missing = stack(&path, "call", "nowhere.a");
     let why = "llvm-objdump cannot read \"./nowhere.a\": ";

@@ -267,33 +267,25 @@ fn libraries_that_cannot_be_followed_are_refused() {
 }
 
 #[test]
-fn the_code_is_that_of_all_sections_of_text() {
+fn octets_are_summed_over_the_sections_of_a_name() {
+    let code = |listing: &str| library::octets(".text", listing);
     for listing in [LLVM, GNU] {
-        assert_eq!(library::code(listing), Ok(0x0d + 0x2e));
+        assert_eq!(code(listing), Ok(0x0d + 0x2e));
+        assert_eq!(library::octets(".rodata", listing), Ok(0x10));
         // Each part of an archive has sections of its own.
-        let twice = [listing, listing].concat();
-        assert_eq!(library::code(&twice), Ok(2 * (0x0d + 0x2e)));
+        assert_eq!(code(&[listing, listing].concat()), Ok(2 * (0x0d + 0x2e)));
         let larger = listing.replace(" 0000002e ", " 0001002e ");
-        assert_eq!(library::code(&larger), Ok(0x1_003b));
-        let plain = listing.replace(" .text         ", " .textual      ");
-        assert_eq!(library::code(&plain), Ok(0x0d + 0x2e));
+        assert_eq!(code(&larger), Ok(0x1_003b));
+        let other = listing.replace(" .text.call ", " .textcall  ");
+        assert_eq!(code(&other), Ok(0x0d));
     }
     let one = "  1 .text 000000ff  0000000000000000  0000000000000000  00000040  2**2";
-    assert_eq!(library::code(one), Ok(255));
-}
-
-#[test]
-fn a_listing_without_code_is_refused() {
-    let none = "it has no section of text with code in it";
-    for listing in [
-        "",
-        &LLVM.replace(".text", ".data"),
-        "  1 .text 00000000 0 TEXT",
-    ] {
-        assert_eq!(library::code(listing), Err(none.into()));
+    assert_eq!(code(one), Ok(255));
+    for listing in ["", "text", "1", "  1  00000010 0000000000000000"] {
+        assert_eq!(code(listing), Ok(0));
     }
     for listing in ["  1 .text.call", "  1 .text.call x TEXT"] {
         let why = "the section .text.call has no size";
-        assert_eq!(library::code(listing), Err(why.into()));
+        assert_eq!(code(listing), Err(why.into()));
     }
 }
