@@ -1,0 +1,111 @@
+//! A bench that watches every lent octet: what a call may not touch, it has not touched.
+
+use port::Answer;
+
+use crate::messages::command;
+
+/// What rooms hold before a call.
+pub const FILL: u8 = 0xA5;
+/// A room that every reply fits.
+pub const AMPLE: usize = 4_096;
+
+/// One port's memory, with a watch on what each call may change.
+#[derive(Clone)]
+pub struct Bench {
+    /// The lent memory.
+    pub memory: Vec<u8>,
+}
+
+impl Bench {
+    /// Fresh memory.
+    pub fn fresh() -> Bench {
+        let mut bench = Bench::of(vec![0xEE; 2_100]);
+        assert_eq!(bench.make_fresh(), 0);
+        bench
+    }
+
+    /// Any memory.
+    pub fn of(memory: Vec<u8>) -> Bench {
+        Bench { memory }
+    }
+
+    /// The call that makes memory fresh.
+    pub fn make_fresh(&mut self) -> u8 {
+        self.watched(0, |memory, _| port::make_fresh(memory)).0
+    }
+
+    /// A message with an ample room.
+    pub fn send(&mut self, message: &[u8]) -> (u8, Vec<u8>) {
+        self.send_into(message, AMPLE)
+    }
+
+    /// A message with a room of the given length.
+    pub fn send_into(&mut self, message: &[u8], room: usize) -> (u8, Vec<u8>) {
+        self.watched(room, |memory, room| {
+            port::take_message(memory, message, room)
+        })
+    }
+
+    /// Operations that have to be carried out; their reply.
+    pub fn done(&mut self, operations: &[u8]) -> Vec<u8> {
+        let (number, reply) = self.send(&command(operations));
+        assert_eq!(number, 0, "operations {operations:02x?}");
+        reply
+    }
+
+    /// A local value.
+    pub fn local(&mut self, name: u16, value: &[u8]) -> u8 {
+        self.watched(0, |memory, _| port::take_local_value(memory, name, value))
+            .0
+    }
+
+    /// A notification in an ample room.
+    pub fn build(&mut self) -> (u8, Vec<u8>) {
+        self.build_into(AMPLE)
+    }
+
+    /// A notification in a room of the given length.
+    pub fn build_into(&mut self, room: usize) -> (u8, Vec<u8>) {
+        self.watched(room, port::build_notification)
+    }
+
+    /// An expiry.
+    pub fn expire(&mut self) -> u8 {
+        self.watched(0, |memory, _| port::take_expiry(memory)).0
+    }
+
+    /// Whether the endpoint finds the memory sound; only number 1 tells, and it changes nothing.
+    pub fn is_sound(&self) -> bool {
+        self.clone().send(&[]).0 == 2
+    }
+
+    /// Makes a call and checks what it may not touch.
+    fn watched(
+        &mut self,
+        room: usize,
+        call: impl FnOnce(&mut [u8], &mut [u8]) -> Answer,
+    ) -> (u8, Vec<u8>) {
+        let mut room = vec![FILL; room];
+        let before = self.memory.clone();
+        let answer = call(&mut self.memory, &mut room);
+        let number = answer.number as u8;
+        match number {
+            0 => {}
+            20 | 21 => {
+                assert_eq!(answer.length, 0);
+                assert_eq!(self.memory[..114], before[..114]);
+                assert_eq!(self.memory[116..], before[116..]);
+            }
+            _ => {
+                assert_eq!(answer.length, 0);
+                assert!(self.memory == before, "memory changed with number {number}");
+            }
+        }
+        let (written, rest) = room.split_at(answer.length);
+        assert!(
+            rest.iter().all(|octet| *octet == FILL),
+            "room changed past the reply"
+        );
+        (number, written.to_vec())
+    }
+}

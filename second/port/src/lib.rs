@@ -1,0 +1,23 @@
+//! Bightmoor's second port management endpoint: five calls over one port's lent memory, and the
+//! delay conversion. It needs no operating system, no heap and no other crate.
+#![no_std]
+#![forbid(unsafe_code)]
+#![warn(missing_docs)]
+
+mod block;
+mod draft;
+mod endpoint;
+mod memory;
+mod operation;
+mod reply;
+mod rules;
+
+pub mod delay;
+pub mod table;
+
+pub use block::{last_four, Block, LIST_ENTRY};
+pub use delay::{DelayUnits, Nanoseconds};
+pub use endpoint::{
+    build_notification, make_fresh, take_expiry, take_local_value, take_message, Answer, Number,
+};
+pub use memory::{value_in, FRESH, PENDING, PRESENT, SUBSCRIBED};

@@ -1,0 +1,131 @@
+//! A command that is carried out may be cut into commands sent in order: each is carried out,
+//! memory ends up the same to the octet, and the records are those of the partial replies joined.
+
+use crate::soundness::full;
+use kit::{command, list, read, schedule, set, sets, subscribe, unsubscribe};
+use kit::{Bench, Chance, Reply};
+
+const NAMES: [u16; 22] = [
+    0x0001, 0x0003, 0x0004, 0x0005, 0x0006, 0x0007, 0x0008, 0x000B, 0x0040, 0x0041, 0x0042, 0x0060,
+    0x0061, 0x00A0, 0x00A1, 0x00A2, 0x00A3, 0x00A4, 0x8001, 0x0002, 0x8002, 0x0142,
+];
+
+fn random_operation(chance: &mut Chance) -> Vec<u8> {
+    let name = NAMES[chance.below(NAMES.len())];
+    match chance.below(12) {
+        0 => vec![1],
+        1..=3 => read(name),
+        4 => subscribe(name),
+        5 => unsubscribe(name),
+        6 => read(0x8001),
+        7 => set(0x0003, &[chance.below(3) as u8]),
+        8 => {
+            let count = [0, 1, 2, 36, 37, 64][chance.below(6)];
+            set(0x0006, &list(count, 1 + chance.below(1_000) as u32))
+        }
+        9 => {
+            let length = chance.below(6);
+            set(name, &chance.octets(length))
+        }
+        10 => set(0x0042, &vec![chance.octet(); 1 + chance.below(255)]),
+        _ => set(0x0061, &vec![chance.octet(); 1 + chance.below(40)]),
+    }
+}
+
+/// Operations one by one: random ones, with whole schedules in between.
+fn random_operations(chance: &mut Chance) -> Vec<Vec<u8>> {
+    let mut operations = Vec::new();
+    for _ in 0..=chance.below(24) {
+        if chance.below(8) == 0 {
+            let count = [1, 2, 5, 36, 37][chance.below(5)];
+            let numerator = chance.below(3) as u32;
+            let values = schedule(count, 1 + chance.below(400) as u32, [numerator, 100_000]);
+            operations.extend(values.iter().map(|(name, value)| set(*name, value)));
+        } else {
+            operations.push(random_operation(chance));
+        }
+    }
+    operations
+}
+
+/// Cuts a row of operations into commands, none of them empty.
+fn random_cuts(chance: &mut Chance, operations: &[Vec<u8>]) -> Vec<Vec<u8>> {
+    let often = 1 + chance.below(6);
+    let mut commands = vec![Vec::new()];
+    for operation in operations {
+        let last = commands.len() - 1;
+        if !commands[last].is_empty() && chance.below(often) == 0 {
+            commands.push(operation.clone());
+        } else {
+            commands[last].extend(operation);
+        }
+    }
+    commands
+}
+
+fn starts() -> [Bench; 3] {
+    let mut committed = Bench::fresh();
+    committed.done(&sets(&schedule(40, 5, [1, 1_000])));
+    [Bench::fresh(), committed, full()]
+}
+
+#[test]
+fn random_commands_in_random_cuts() {
+    let mut chance = Chance::new(3);
+    let starts = starts();
+    let (mut carried_out, mut commits, mut long) = (0, 0, 0);
+    for _ in 0..12_000 {
+        let operations = random_operations(&mut chance);
+        let start = &starts[chance.below(starts.len())];
+        let mut whole = start.clone();
+        let (number, reply) = whole.send(&command(&operations.concat()));
+        if number != 0 {
+            assert!([3, 7].contains(&number));
+            continue;
+        }
+        let whole_reply = Reply::parse(&reply);
+        let mut parts = start.clone();
+        let mut joined = Reply::default();
+        for part in random_cuts(&mut chance, &operations) {
+            joined.join(Reply::parse(&parts.done(&part)));
+        }
+        assert_eq!(whole_reply, joined);
+        assert!(whole.memory == parts.memory);
+        assert!(whole.is_sound());
+        carried_out += 1;
+        commits += whole_reply
+            .updates
+            .iter()
+            .filter(|(name, _)| *name == 0x8001)
+            .count();
+        long += whole_reply.long_updates.len();
+    }
+    assert!(
+        carried_out > 8_000,
+        "{carried_out} commands were carried out"
+    );
+    assert!(commits > 1_000, "{commits} commits succeeded");
+    assert!(long > 1_000, "{long} updates were long");
+}
+
+#[test]
+fn every_single_cut_of_one_long_command() {
+    let first = schedule(37, 5, [1, 1_000]);
+    let second = schedule(2, 5, [1, 1_000]);
+    let mut operations = vec![vec![1], subscribe(0x00A4), read(0x8001), read(0x00A4)];
+    for values in [&first, &second] {
+        operations.extend(values.iter().map(|(name, value)| set(*name, value)));
+        operations.extend([read(0x0006), read(0x8001), unsubscribe(0x0001), vec![1]]);
+    }
+    for start in starts() {
+        let mut whole = start.clone();
+        let whole_reply = Reply::parse(&whole.done(&operations.concat()));
+        for cut in 1..operations.len() {
+            let mut parts = start.clone();
+            let mut joined = Reply::parse(&parts.done(&operations[..cut].concat()));
+            joined.join(Reply::parse(&parts.done(&operations[cut..].concat())));
+            assert_eq!(whole_reply, joined);
+            assert!(whole.memory == parts.memory);
+        }
+    }
+}

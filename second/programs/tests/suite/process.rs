@@ -1,0 +1,6 @@
+//! The programs `bridge` and `rig`, and running them as child processes.
+
+pub use kit::process::*;
+
+pub const BRIDGE: &str = env!("CARGO_BIN_EXE_bridge");
+pub const RIG: &str = env!("CARGO_BIN_EXE_rig");

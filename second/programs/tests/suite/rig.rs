@@ -1,0 +1,201 @@
+//! The program `rig`, as a child process.
+
+use crate::process::{assert_quiet_without_reader, assert_refused, lines, Peer, RIG};
+use kit::{command, hex, read, set, subscribe, Bench};
+
+fn record(code: u8, body: &[u8]) -> Vec<u8> {
+    let [high, low] = (body.len() as u16).to_be_bytes();
+    [&[code, high, low], body].concat()
+}
+
+fn message(room: u16, message: &[u8]) -> Vec<u8> {
+    record(1, &[&room.to_be_bytes(), message].concat())
+}
+
+fn local(name: u16, value: &[u8]) -> Vec<u8> {
+    record(2, &[&name.to_be_bytes(), value].concat())
+}
+
+fn build(room: u16) -> Vec<u8> {
+    record(3, &room.to_be_bytes())
+}
+
+fn digits(octets: &[u8]) -> String {
+    octets.iter().map(|octet| format!("{octet:02x}")).collect()
+}
+
+#[test]
+fn it_starts_with_fresh_memory_and_an_empty_room() {
+    let script = [record(6, &[]), record(7, &[])].concat();
+    assert_eq!(
+        lines(RIG, &script),
+        [digits(&Bench::fresh().memory), "-".into()]
+    );
+    assert!(lines(RIG, &[]).is_empty());
+}
+
+#[test]
+fn every_call_prints_its_line() {
+    let mut script = message(64, &command(&subscribe(0x00A4)));
+    script.extend(message(9, &command(&read(0x0003))));
+    script.extend(local(0x00A4, &[0, 9]));
+    script.extend(local(0x00A5, &[0, 9]));
+    script.extend([build(1_599), build(1_600), build(1_600)].concat());
+    script.extend(record(4, &[]).repeat(2));
+    script.extend([message(4, &[4]), record(4, &[]), build(1_600)].concat());
+    script.extend([message(4, &[]), message(4, &[4]), record(0, &[])].concat());
+    let expected = [
+        "0 02",
+        "7 -",
+        "0 -",
+        "12 -",
+        "11 -",
+        "0 0300080100a40002000900",
+        "10 -",
+        "20 -",
+        "20 -",
+        "0 05",
+        "8 -",
+        "9 -",
+        "2 -",
+        "8 -",
+        "0 -",
+    ];
+    assert_eq!(lines(RIG, &script), expected);
+}
+
+#[test]
+fn a_notification_is_given_up_at_the_fifth_expiry() {
+    let mut script = message(1, &command(&subscribe(0x0008)));
+    script.extend([local(0x0008, &[1; 4]), build(4_096)].concat());
+    script.extend(record(4, &[]).repeat(6));
+    let printed = lines(RIG, &script);
+    assert_eq!(
+        printed[3..],
+        ["20 -", "20 -", "20 -", "20 -", "21 -", "8 -"]
+    );
+}
+
+#[test]
+fn rooms_are_made_anew() {
+    let reply = "0271000701000300010000";
+    for (asked, made) in [
+        (11, 11),
+        (12, 12),
+        (8_192, 8_192),
+        (8_193, 8_192),
+        (65_535, 8_192),
+    ] {
+        let script = [message(asked, &command(&read(0x0003))), record(7, &[])].concat();
+        let room = format!("{reply}{}", "a5".repeat(made - 11));
+        assert_eq!(lines(RIG, &script), [format!("0 {reply}"), room]);
+    }
+    let script = [
+        message(10, &command(&read(0x0003))),
+        record(7, &[]),
+        message(0, &[]),
+    ]
+    .concat();
+    let script = [script, record(7, &[]), build(3), record(7, &[])].concat();
+    let expected = ["7 -", &"a5".repeat(10), "2 -", "-", "11 -", "a5a5a5"];
+    assert_eq!(lines(RIG, &script), expected);
+}
+
+#[test]
+fn memory_can_be_lent() {
+    let mut bench = Bench::fresh();
+    bench.done(&set(0x0003, &[1]));
+    let mut script = record(5, &bench.memory);
+    script.extend(message(4_096, &command(&read(0x0003))));
+    script.extend([record(5, &[]), record(6, &[]), record(0, &[])].concat());
+    script.extend([record(5, &[1; 2_200]), message(9, &[]), record(0, &[])].concat());
+    script.extend([record(5, &[1; 2_100]), record(4, &[]), record(0, &[])].concat());
+    script.extend(record(6, &[]));
+    let fresh = digits(&Bench::fresh().memory);
+    let expected = [
+        "lent 2100",
+        "0 0271000701000300010100",
+        "lent 0",
+        "-",
+        "1 -",
+        "lent 2200",
+        "1 -",
+        "1 -",
+        "lent 2100",
+        "1 -",
+        "0 -",
+        &fresh,
+    ];
+    assert_eq!(lines(RIG, &script), expected);
+}
+
+#[test]
+fn delays_are_converted() {
+    let delays = [0, 1, (1 << 47) - 1, 1 << 47, u64::MAX];
+    let script: Vec<u8> = delays
+        .iter()
+        .flat_map(|d| record(8, &d.to_be_bytes()))
+        .collect();
+    let expected = [
+        "0000000000000000",
+        "0000010000000000",
+        "0000ffffffffff7f",
+        "ffffffffffffff7f",
+        "ffffffffffffff7f",
+    ];
+    assert_eq!(lines(RIG, &script), expected);
+}
+
+#[test]
+fn faulty_records_end_the_run() {
+    let wrong_lengths = [
+        (0, 1),
+        (1, 0),
+        (1, 1),
+        (2, 0),
+        (2, 1),
+        (3, 0),
+        (3, 1),
+        (3, 3),
+        (4, 1),
+        (5, 2_201),
+        (5, 65_535),
+        (6, 1),
+        (7, 1),
+        (8, 0),
+        (8, 7),
+        (8, 9),
+    ];
+    let mut faulty: Vec<Vec<u8>> = wrong_lengths
+        .iter()
+        .map(|(code, length)| record(*code, &vec![0; *length]))
+        .collect();
+    faulty.extend([record(9, &[]), record(0xFF, &[1, 2])]);
+    let whole = message(64, &command(&read(0x0003)));
+    faulty.extend((1..whole.len()).map(|kept| whole[..kept].to_vec()));
+    for record_at_fault in faulty {
+        let script = [record(4, &[]), record_at_fault].concat();
+        assert_eq!(lines(RIG, &script), ["8 -", "cut"]);
+    }
+    let script = [record(9, &[]), record(4, &[])].concat();
+    assert_eq!(lines(RIG, &script), ["cut"]);
+}
+
+#[test]
+fn a_peer_on_a_pipe_gets_each_answer() {
+    let mut peer = Peer::of(RIG);
+    for _ in 0..3 {
+        peer.write(&message(64, &command(&read(0x0003))));
+        assert_eq!(peer.line(), "0 0271000701000300010000\n");
+        peer.write(&record(4, &[]));
+        assert_eq!(peer.line(), "8 -\n");
+    }
+    peer.write(&hex("00 00"));
+    assert_eq!(peer.end(), "cut");
+}
+
+#[test]
+fn wrong_use() {
+    assert_refused(RIG, &["anything"]);
+    assert_quiet_without_reader(RIG, &[], &record(6, &[]).repeat(20_000));
+}

@@ -1,0 +1,61 @@
+//! The names for what stands on the wire: the definitions and the code give each the same number.
+
+use std::collections::BTreeMap;
+use std::fs;
+
+use kit::files::ROOT;
+
+fn text(path: &str) -> String {
+    fs::read_to_string(format!("{ROOT}/{path}")).unwrap()
+}
+
+fn value(digits: &str) -> u64 {
+    let hex = digits.strip_prefix("0x");
+    hex.map_or(digits.parse(), |hex| u64::from_str_radix(hex, 16))
+        .unwrap()
+}
+
+/// `typeNotifyAck` as `TYPE_NOTIFY_ACK`.
+fn upper(name: &str) -> String {
+    let parted = name.chars().flat_map(|c| {
+        let gap = c.is_ascii_uppercase().then_some('_');
+        gap.into_iter().chain([c.to_ascii_uppercase()])
+    });
+    parted.collect()
+}
+
+/// The names of the definitions, as the code writes them: `name = number` on a line of its own.
+fn defined(specs: &str) -> BTreeMap<String, u64> {
+    let lines = specs.lines().filter_map(|line| line.split_once(" = "));
+    lines.map(|(n, v)| (upper(n), value(v))).collect()
+}
+
+/// The constants of the code.
+fn constants(code: &str) -> BTreeMap<String, u64> {
+    let lines = code.lines().filter_map(|l| l.strip_prefix("pub const "));
+    let parts = lines.map(|line| {
+        let (name, rest) = line.split_once(": ").unwrap();
+        let (_, number) = rest.trim_end_matches(';').split_once(" = ").unwrap();
+        (name.to_string(), value(number))
+    });
+    parts.collect()
+}
+
+#[test]
+fn the_code_has_every_name_of_the_definitions_with_its_number() {
+    let defined = defined(&text("crates/meaning/specs/Wire.antt"));
+    let constants = constants(&text("crates/wire/src/lib.rt"));
+    assert!(defined.len() > 20, "{} names", defined.len());
+    for (name, number) in &defined {
+        assert_eq!(constants.get(name), Some(number), "{name}");
+    }
+}
+
+#[test]
+fn another_number_or_a_missing_name_is_seen() {
+    let defined = defined("abbrev pub typeNotifyAck : ℕ\ntypeNotifyAck = 0x0A\n");
+    let code = constants("pub const TYPE_NOTIFY_ACK: u8 = 0x0A;\npub const MORE: usize = 7;\n");
+    assert_eq!(defined["TYPE_NOTIFY_ACK"], 10);
+    assert_eq!((code["TYPE_NOTIFY_ACK"], code["MORE"]), (10, 7));
+    assert_eq!(constants("pub const TYPE: u8 = 1;\n").get("TYPE_NOTIFY_ACK"), None);
+}

@@ -1,0 +1,208 @@
+//! The program `measure`: what it is asked for, and the one table that it prints.
+
+pub mod assembly;
+mod fault;
+pub mod gate;
+pub mod library;
+pub mod processor;
+pub mod stack;
+pub mod table;
+pub mod time;
+pub mod worst;
+
+use std::fs;
+use std::io::{self, Write};
+
+use crate::arguments::number;
+use crate::traffic::measured::{Limit, Stream, STREAMS};
+use fault::told;
+use gate::Gate;
+use table::{Figure, Row, Table};
+use time::SEED;
+
+/// How the program is called.
+pub const USAGE: &str =
+    "usage: measure [--worst] [--stack CALL LIBRARY] [--gate LOG] BRIDGE SECOND [COUNT]; \
+BRIDGE is the path of the bridge that is measured, SECOND of the one that it is measured against, \
+COUNT how many of the shortest messages a stream has (1000000 if left out), LIBRARY a static \
+library for x86-64 that has the message call under the name CALL, LOG what a gate printed; --worst \
+also searches for the worst message; the status is 1 if a figure is over its limit";
+
+/// Messages of a stream where no count is given.
+const COUNT: u64 = 1_000_000;
+/// Octets of stack that a message call may take: the working copy, and all else.
+const STACK: [i64; 2] = [2_100, 1_024];
+/// Seconds that the gate may take.
+const GATE: f64 = 600.0;
+
+/// What to measure.
+#[derive(Debug, PartialEq, Eq)]
+pub struct Plan {
+    /// Paths of the bridge and of the second one.
+    pub programs: [String; 2],
+    /// Messages of a stream of the shortest; other streams have a part of it.
+    pub count: u64,
+    /// Whether the worst message is searched for.
+    pub worst: bool,
+    /// The call whose stack is to be read, in a library whose code is to be counted.
+    pub stack: Option<Exported>,
+    /// Path of what a gate printed.
+    pub gate: Option<String>,
+}
+
+/// A call in a library.
+#[derive(Debug, PartialEq, Eq)]
+pub struct Exported {
+    /// Its name.
+    pub call: String,
+    /// The library's path.
+    pub library: String,
+}
+
+impl Plan {
+    /// Reads the arguments.
+    pub fn parse(arguments: &[String]) -> Result<Plan, String> {
+        let (mut worst, mut stack, mut gate) = (false, None, None);
+        let mut rest = arguments;
+        loop {
+            match rest {
+                [word, behind @ ..] if word == "--worst" && !worst => {
+                    worst = true;
+                    rest = behind;
+                }
+                [word, call, library, behind @ ..] if word == "--stack" && stack.is_none() => {
+                    stack = Some(Exported {
+                        call: call.clone(),
+                        library: path_of(library),
+                    });
+                    rest = behind;
+                }
+                [word, log, behind @ ..] if word == "--gate" && gate.is_none() => {
+                    gate = Some(log.clone());
+                    rest = behind;
+                }
+                _ => break,
+            }
+        }
+        let (programs, count) = programs_and_count(rest)?;
+        Ok(Plan {
+            programs,
+            count,
+            worst,
+            stack,
+            gate,
+        })
+    }
+}
+
+/// The arguments after the options.
+fn programs_and_count(words: &[String]) -> Result<([String; 2], u64), String> {
+    let (bridge, second, count) = match words {
+        [word, ..] if word.starts_with("--") => return Err(USAGE.into()),
+        [bridge, second] => (bridge, second, COUNT),
+        [bridge, second, count] => (bridge, second, number("COUNT", count)?),
+        _ => return Err(USAGE.into()),
+    };
+    if count == 0 || count == u64::MAX {
+        return Err(format!("COUNT cannot be {count}"));
+    }
+    Ok(([bridge, second].map(|path| path_of(path)), count))
+}
+
+/// A path that means a file wherever it is used: a bare name would be looked for on the PATH when it
+/// is run, and one that begins with a dash would be an option of the program that is handed it.
+fn path_of(word: &str) -> String {
+    match word.starts_with(['/', '.']) {
+        true => word.into(),
+        false => format!("./{word}"),
+    }
+}
+
+/// Measures, and prints the table; how many of its figures are over their limits. An error is one of
+/// `output`, or tells what cannot be read, run or written. Files are read first, since runs take long.
+pub fn run<W: Write>(plan: &Plan, output: &mut W) -> io::Result<usize> {
+    let library = plan.stack.as_ref().map(library_rows).transpose()?;
+    let gate = plan.gate.as_deref().map(gate_row).transpose()?;
+    let mut rows = vec![Row::plain("processor", Figure::None, processor::own())];
+    rows.extend(time_rows(plan)?);
+    rows.extend(library.into_iter().flatten());
+    rows.extend(gate);
+    let table = Table(rows);
+    write!(output, "{table}")?;
+    output.flush()?;
+    Ok(table.over())
+}
+
+/// The bridge's times to those of the second one, or why they cannot be compared here.
+fn time_rows(plan: &Plan) -> io::Result<Vec<Row>> {
+    let what = |stream: &Stream| format!("time to the second's: {}", stream.what);
+    if let Some(why) = processor::obstacle(&plan.programs)? {
+        let streams = STREAMS.iter().map(|stream| (what(stream), stream.limit));
+        let goals = worst::GOALS.iter().filter(|_| plan.worst);
+        let all = streams.chain(goals.map(|goal| (goal.to_string(), Limit::Any)));
+        let rows = all.map(|(what, limit)| Row::untimed(what, limit, &why));
+        return Ok(rows.collect());
+    }
+    let row = |stream: &Stream| {
+        let messages = (plan.count / stream.one_in).max(1);
+        let frames = stream.before() + messages;
+        let times = time::measure(&plan.programs, |sink| stream.write(SEED, frames, sink))?;
+        Ok(Row::timed(what(stream), stream.limit, messages, &times))
+    };
+    let mut rows: Vec<Row> = STREAMS.iter().map(row).collect::<io::Result<_>>()?;
+    if plan.worst {
+        rows.extend(worst::rows(&plan.programs, plan.count)?);
+    }
+    Ok(rows)
+}
+
+/// The stack of the message call, and the code of all calls.
+fn library_rows(exported: &Exported) -> io::Result<[Row; 2]> {
+    let Exported { call, library } = exported;
+    let listing = library::listing(library)?;
+    let cannot = |what: &str, why: String| {
+        let what = format!("the {what} cannot be read off {library:?}: {why}");
+        io::Error::other(what)
+    };
+    let deepest = stack::deepest(call, &listing).map_err(|why| cannot("stack", why))?;
+    let octets = |name| library::octets(name, &listing).map_err(|why| cannot("code", why));
+    let (code, constants) = (octets(".text")?, octets(".rodata")?);
+    if code == 0 {
+        return Err(cannot("code", "it has no section of text".into()));
+    }
+    let [copy, beside] = STACK;
+    let stack = Figure::Octets(deepest.octets(), Some(copy + beside));
+    let limit = format!("limit {copy} for the working copy and {beside} beside it");
+    let sections = "all sections of text for x86-64, without memcpy and memset";
+    let constants = format!("{sections}; constants take {constants} octets more");
+    Ok([
+        Row::plain(
+            "stack of the message call",
+            stack,
+            format!("{limit}; {deepest}"),
+        ),
+        Row::plain(
+            "code of the five calls",
+            Figure::Octets(code, None),
+            constants,
+        ),
+    ])
+}
+
+fn gate_row(path: &str) -> io::Result<Row> {
+    let log = fs::read(path).map_err(|error| told(format_args!("cannot read {path:?}"), &error))?;
+    let gate = Gate::read(&String::from_utf8_lossy(&log)).map_err(|why| {
+        let what = format!("{path:?} is not what a gate printed that passed: {why}");
+        io::Error::other(what)
+    })?;
+    let time = match gate.whole {
+        Some(seconds) => format!("{seconds:.0} seconds"),
+        None => "not measured: the log has no line 'real' of 'time'".into(),
+    };
+    let ratio = gate.whole.map(|seconds| seconds / GATE);
+    Ok(Row::plain(
+        "time of the gate to ten minutes",
+        Figure::Ratio(ratio, 1.0),
+        format!("{time}; {gate}"),
+    ))
+}

@@ -1,0 +1,211 @@
+//! Messages for traffic: commands of all kinds, most of them carried out, and faulty ones.
+
+use port::table::{SetBy, COMMIT, TABLE};
+
+use super::dice::Dice;
+use super::operations::{Operations, COMMAND};
+use super::{schedules, values};
+
+const NOTIFY_ACK: u8 = 0x04;
+const GATE_ENABLED: u16 = 0x0003;
+const CHASSIS_ID: u16 = 0x0042;
+const UNLISTED: u16 = 0x0002;
+
+/// Longest message that is taken.
+const LONGEST: usize = 2_048;
+/// Longest list of operations in such a message.
+const LONGEST_LIST: usize = LONGEST - 3;
+
+/// Any message, fit for the sound memory that will take it.
+pub fn message(dice: &mut Dice, memory: &[u8]) -> Vec<u8> {
+    match dice.below(38) {
+        0..=13 => mixed(dice).command(),
+        14..=19 => schedules::operations(dice, memory).command(),
+        20 => schedules::recommit(memory).command(),
+        21..=22 => off_values(dice).command(),
+        23..=25 => many(dice).command(),
+        26..=27 => longest(dice),
+        28..=29 => large_reply(dice).command(),
+        30..=31 => with_octets_after(dice),
+        32..=33 => wrong_length(dice),
+        34..=35 => malformed(dice),
+        36 => wrong_type(dice),
+        _ => acknowledgement(dice),
+    }
+}
+
+/// An acknowledgement, sometimes with octets after it.
+pub fn acknowledgement(dice: &mut Dice) -> Vec<u8> {
+    let mut message = vec![NOTIFY_ACK];
+    if dice.one_in(3) {
+        let after = dice.between(1, 5);
+        message.extend(dice.octets(after));
+    }
+    message
+}
+
+/// A command that subscribes to all parameters set by the port but one.
+pub fn subscriptions(dice: &mut Dice) -> Vec<u8> {
+    let spared = values::place(dice, SetBy::Port);
+    let mut operations = Operations::default();
+    for (index, parameter) in TABLE.iter().enumerate() {
+        if parameter.set_by == SetBy::Port && index != spared {
+            operations.subscribe(parameter.name);
+        }
+    }
+    operations.command()
+}
+
+fn mixed(dice: &mut Dice) -> Operations {
+    let mut operations = Operations::default();
+    for _ in 0..dice.between(1, 6) {
+        let name = values::name(dice);
+        match dice.below(14) {
+            0 => operations.get_capabilities(),
+            1..=4 => operations.read(name),
+            5..=6 => operations.subscribe(name),
+            7 => operations.unsubscribe(name),
+            8 => operations.set(name, &[1]),
+            _ => {
+                let parameter = &TABLE[values::place(dice, SetBy::Controller)];
+                let value = values::permitted(dice, parameter);
+                operations.set(parameter.name, &value);
+            }
+        }
+    }
+    operations
+}
+
+/// Sets of values one step off, among reads that show that nothing came of them.
+fn off_values(dice: &mut Dice) -> Operations {
+    let mut operations = Operations::default();
+    for _ in 0..dice.between(1, 3) {
+        let parameter = &TABLE[dice.below(TABLE.len())];
+        operations.set(parameter.name, &values::off(dice, parameter));
+        operations.read(parameter.name);
+    }
+    operations
+}
+
+/// As many records of one kind as can be counted, or one more.
+fn many(dice: &mut Dice) -> Operations {
+    let count = dice.pick(&[255, 255, 256]);
+    let (sets, name) = (dice.one_in(2), dice.pick(&[GATE_ENABLED, UNLISTED]));
+    let mut operations = Operations::default();
+    for _ in 0..count {
+        match sets {
+            true => operations.set(name, &[dice.below(2) as u8]),
+            false => operations.read(name),
+        }
+    }
+    if dice.one_in(2) {
+        operations.read(dice.pick(&[UNLISTED, GATE_ENABLED]));
+    }
+    operations
+}
+
+/// A message of 2,048 octets, or of more, filled with operations or with octets after them.
+fn longest(dice: &mut Dice) -> Vec<u8> {
+    let mut message = match dice.below(3) {
+        0 => vec![NOTIFY_ACK],
+        1 => mixed(dice).command(),
+        _ => filled(dice).command(),
+    };
+    let length = dice.pick(&[LONGEST, LONGEST, LONGEST + 1, LONGEST + 1, 65_535]);
+    let fill = dice.octet();
+    message.resize(length, fill);
+    message
+}
+
+fn filled(dice: &mut Dice) -> Operations {
+    let mut operations = mixed(dice);
+    while operations.length() + 3 <= LONGEST_LIST {
+        let name = values::name(dice);
+        match dice.below(8) {
+            0 => operations.unsubscribe(name),
+            1 => operations.read(GATE_ENABLED),
+            _ => operations.subscribe(name),
+        }
+    }
+    while operations.length() < LONGEST_LIST {
+        operations.get_capabilities();
+    }
+    operations
+}
+
+/// A command whose reply has 4,095 to 4,098 octets, the elements 71 and 72 included.
+fn large_reply(dice: &mut Dice) -> Operations {
+    let mut operations = Operations::default();
+    let chassis_id = dice.octets(255);
+    operations.set(CHASSIS_ID, &chassis_id);
+    let elements = 1 + (3 + 2) + (3 + 2 + 3 + chassis_id.len());
+    let mut left = dice.between(4_095, 4_098) - elements;
+    // Records of 259, then of 5, then errors of 3 octets; any rest from 8 on can be made of these.
+    while left >= 4 + chassis_id.len() + 8 {
+        operations.read(CHASSIS_ID);
+        left -= 4 + chassis_id.len();
+    }
+    while !left.is_multiple_of(3) {
+        operations.read(GATE_ENABLED);
+        left -= 5;
+    }
+    for _ in 0..left / 3 {
+        operations.read(UNLISTED);
+    }
+    operations
+}
+
+fn with_octets_after(dice: &mut Dice) -> Vec<u8> {
+    let mut message = mixed(dice).command();
+    let after = dice.between(1, 12);
+    message.extend(dice.octets(after));
+    message
+}
+
+/// L missing, 0, one past the end, far past it, or short of the last operation's end.
+fn wrong_length(dice: &mut Dice) -> Vec<u8> {
+    let operations = mixed(dice);
+    let right = operations.length();
+    match dice.below(6) {
+        0 => vec![COMMAND],
+        1 => vec![COMMAND, dice.octet()],
+        2 => operations.command_telling(0),
+        3 => operations.command_telling(right + 1),
+        4 => operations.command_telling(65_535),
+        _ => operations.command_telling(right - 1),
+    }
+}
+
+/// An unknown code, or an operation cut short, alone or after others that may be too many.
+fn malformed(dice: &mut Dice) -> Vec<u8> {
+    let mut operations = match dice.below(5) {
+        0..=1 => Operations::default(),
+        2..=3 => mixed(dice),
+        _ => many(dice),
+    };
+    if dice.one_in(2) {
+        // With a name after it, only the code itself is wrong.
+        let name = values::name(dice);
+        operations.named(dice.pick(&[0, 6, 7, 255]), name);
+        return operations.command();
+    }
+    let before = operations.length();
+    let parameter = &TABLE[values::place(dice, SetBy::Controller)];
+    match dice.below(3) {
+        0 => operations.read(parameter.name),
+        1 => operations.subscribe(TABLE[COMMIT].name),
+        _ => operations.set(parameter.name, &values::permitted(dice, parameter)),
+    }
+    let whole = operations.length();
+    operations.truncate(dice.between(before + 1, whole - 1));
+    operations.command()
+}
+
+fn wrong_type(dice: &mut Dice) -> Vec<u8> {
+    let mut message = mixed(dice).command();
+    message[0] = dice.pick(&[0x00, 0x02, 0x03, 0x05, 0x06, 0xFF]);
+    if dice.one_in(3) {
+        message.clear();
+    }
+    message
+}

@@ -1,0 +1,144 @@
+//! Memory for traffic to lend: damaged in every clause of soundness, or sound but unusual.
+
+use port::table::{
+    SetBy, BODIES, COMMIT, COUNT, ENTRY, EXPIRIES, GATE_ENABLED, LIST_MAX, PARTS, SIZE, TABLE,
+    TIMER,
+};
+use port::{value_in, PENDING, PRESENT, SUBSCRIBED};
+use programs::rig::MOST_LENT;
+
+use super::dice::Dice;
+use super::{schedules, values};
+
+/// Sound memory with some change, after which it mostly is not sound.
+pub fn changed(dice: &mut Dice, sound: &[u8]) -> Vec<u8> {
+    let mut memory = sound.to_vec();
+    match dice.below(16) {
+        0..=4 => change_octets(dice, sound, &mut memory),
+        5 => change_length(dice, &mut memory),
+        6..=8 => change_value(dice, &mut memory),
+        9 => remove_value(dice, &mut memory),
+        10..=11 => change_flags(dice, &mut memory),
+        12..=13 => change_block(dice, &mut memory),
+        _ => change_marks(dice, &mut memory),
+    }
+    memory
+}
+
+/// Changes one to three octets, at places that matter more often than elsewhere.
+fn change_octets(dice: &mut Dice, sound: &[u8], memory: &mut [u8]) {
+    for _ in 0..dice.between(1, 3) {
+        let at = match dice.below(5) {
+            0..=1 => dice.below(BODIES),
+            2..=3 => near_an_end(dice, sound),
+            _ => dice.below(SIZE),
+        };
+        memory[at] = match dice.below(3) {
+            0 => memory[at].wrapping_add(1),
+            1 => memory[at] ^ 1 << dice.below(8),
+            _ => dice.octet(),
+        };
+    }
+}
+
+/// The last octet of a value or room, or the octet after it.
+fn near_an_end(dice: &mut Dice, sound: &[u8]) -> usize {
+    let index = dice.below(COUNT);
+    let parameter = &TABLE[index];
+    let length = value_in(sound, index).map_or(0, <[u8]>::len);
+    let end = parameter.start + dice.pick(&[length, length, parameter.most]);
+    (end - dice.below(2)).min(SIZE - 1)
+}
+
+fn change_length(dice: &mut Dice, memory: &mut Vec<u8>) {
+    let any = dice.below(MOST_LENT + 1);
+    let length = dice.pick(&[0, 1, BODIES, SIZE - 1, SIZE + 1, MOST_LENT, any]);
+    memory.resize(length, 0);
+}
+
+/// Installs a value that is permitted or, more often, one that its room can hold but its rule
+/// does not permit.
+fn change_value(dice: &mut Dice, memory: &mut [u8]) {
+    let index = dice.below(COMMIT);
+    let value = if dice.one_in(3) {
+        values::permitted(dice, &TABLE[index])
+    } else {
+        off_in_room(dice, index)
+    };
+    install(memory, index, Some(&value));
+}
+
+/// Tries until one fits; every parameter has some, if only by being too short.
+fn off_in_room(dice: &mut Dice, index: usize) -> Vec<u8> {
+    loop {
+        let value = values::off(dice, &TABLE[index]);
+        if value.len() <= TABLE[index].most {
+            return value;
+        }
+    }
+}
+
+/// Makes a value absent, often one that must be present, at all times or while a block runs.
+fn remove_value(dice: &mut Dice, memory: &mut [u8]) {
+    let index = match dice.below(4) {
+        0 => dice.pick(&[GATE_ENABLED, LIST_MAX]),
+        1 => dice.pick(&PARTS),
+        _ => dice.below(COUNT),
+    };
+    install(memory, index, None);
+}
+
+fn change_flags(dice: &mut Dice, memory: &mut [u8]) {
+    let flags = &mut memory[dice.below(COUNT) * ENTRY + 2];
+    *flags = match dice.below(4) {
+        0 => *flags ^ PRESENT,
+        1 => *flags | dice.pick(&[8, 16, 32, 64, 128]),
+        2 => *flags | SUBSCRIBED | PENDING,
+        _ => *flags & PRESENT | PENDING,
+    };
+}
+
+/// Lets a block run that may lack form, fit, or the presence of a value it was made of.
+fn change_block(dice: &mut Dice, memory: &mut [u8]) {
+    let mut parts = schedules::parts(dice);
+    for (value, index) in parts.iter().zip(PARTS) {
+        if !dice.one_in(20) {
+            install(memory, index, Some(value));
+        }
+    }
+    if dice.one_in(2) {
+        let part = dice.below(PARTS.len());
+        parts[part] = off_in_room(dice, PARTS[part]);
+    }
+    let block = parts.concat();
+    if block.len() <= TABLE[COMMIT].most {
+        install(memory, COMMIT, Some(&block));
+    }
+}
+
+/// Sound marks on names set by the port, and a timer that may be out of its range.
+fn change_marks(dice: &mut Dice, memory: &mut [u8]) {
+    for (index, parameter) in TABLE.iter().enumerate() {
+        let flags = &mut memory[index * ENTRY + 2];
+        let marks = match parameter.set_by {
+            SetBy::Port => dice.pick(&[0, SUBSCRIBED, SUBSCRIBED | PENDING]),
+            SetBy::Controller | SetBy::Nobody => dice.pick(&[0, SUBSCRIBED]),
+        };
+        *flags = *flags & PRESENT | marks;
+    }
+    if dice.one_in(2) {
+        memory[TIMER] = dice.pick(&[0, 1, 1, 1, 2]);
+        memory[EXPIRIES] = dice.pick(&[0, 1, 2, 3, 4, 4, 5]);
+    }
+}
+
+/// Gives an entry a value, sound or not, or makes it absent; its marks stay.
+fn install(memory: &mut [u8], index: usize, value: Option<&[u8]>) {
+    let octets = value.unwrap_or_default();
+    let entry = &mut memory[index * ENTRY..(index + 1) * ENTRY];
+    entry[2] = entry[2] & !PRESENT | if value.is_some() { PRESENT } else { 0 };
+    entry[4..].copy_from_slice(&(octets.len() as u16).to_be_bytes());
+    let start = TABLE[index].start;
+    memory[start..start + octets.len()].copy_from_slice(octets);
+    memory[start + octets.len()..start + TABLE[index].most].fill(0);
+}

@@ -1,0 +1,73 @@
+//! Seeded traffic: streams of frames for `bridge` and scripts for `rig`, the same on every machine.
+
+pub mod acts;
+mod commands;
+pub mod dice;
+mod frames;
+pub mod measured;
+mod memories;
+mod operations;
+mod pieces;
+mod schedules;
+mod script;
+mod values;
+
+use std::io::{self, Write};
+use std::str::FromStr;
+
+use dice::Dice;
+use measured::{Stream, STREAMS};
+
+/// What a stream is made of.
+#[derive(Clone, Copy, Debug, PartialEq, Eq)]
+pub enum Kind {
+    /// Frames for `bridge`, of every kind and often faulty.
+    Frames,
+    /// Frames for `bridge`, to be measured.
+    Measured(&'static Stream),
+    /// Records for `rig`.
+    Script,
+    /// Records for `rig` that make more calls than they lend and show, to be stored.
+    Calls,
+}
+
+impl FromStr for Kind {
+    type Err = String;
+
+    fn from_str(word: &str) -> Result<Kind, String> {
+        match word {
+            "frames" => Ok(Kind::Frames),
+            "script" => Ok(Kind::Script),
+            "calls" => Ok(Kind::Calls),
+            _ => Stream::named(word)
+                .map(Kind::Measured)
+                .ok_or_else(|| format!("KIND is {}, not {word:?}", words())),
+        }
+    }
+}
+
+/// The words of all kinds.
+pub fn words() -> String {
+    let measured = STREAMS.iter().map(|stream| stream.word);
+    let words: Vec<&str> = ["frames"].into_iter().chain(measured).collect();
+    format!("{}, script or calls", words.join(", "))
+}
+
+/// Writes the stream of `count` pieces that belongs to `seed`.
+pub fn write<W: Write>(kind: Kind, seed: u64, count: u64, sink: &mut W) -> io::Result<()> {
+    let mut dice = Dice::new(seed);
+    match kind {
+        Kind::Frames => frames::write(&mut dice, count, sink),
+        Kind::Measured(stream) => stream.write(seed, count, sink),
+        Kind::Script => script::write(&mut dice, script::OFTEN, count, sink),
+        Kind::Calls => script::write(&mut dice, script::SELDOM, count, sink),
+    }
+}
+
+/// The same stream, in memory.
+pub fn stream(kind: Kind, seed: u64, count: u64) -> Vec<u8> {
+    let mut octets = Vec::new();
+    // Writing to a vector cannot fail.
+    let _ = write(kind, seed, count, &mut octets);
+    octets
+}

@@ -1,0 +1,66 @@
+//! A list of operations for traffic, built up one by one, and the command that carries it.
+
+/// The type of a command.
+pub const COMMAND: u8 = 0x01;
+
+/// A list of operations under construction.
+#[derive(Default)]
+pub struct Operations(Vec<u8>);
+
+impl Operations {
+    /// Adds a get capabilities.
+    pub fn get_capabilities(&mut self) {
+        self.0.push(1);
+    }
+
+    /// Adds a read.
+    pub fn read(&mut self, name: u16) {
+        self.named(2, name);
+    }
+
+    /// Adds a set.
+    pub fn set(&mut self, name: u16, value: &[u8]) {
+        self.named(3, name);
+        self.0.extend((value.len() as u16).to_be_bytes());
+        self.0.extend(value);
+    }
+
+    /// Adds a subscribe.
+    pub fn subscribe(&mut self, name: u16) {
+        self.named(4, name);
+    }
+
+    /// Adds an unsubscribe.
+    pub fn unsubscribe(&mut self, name: u16) {
+        self.named(5, name);
+    }
+
+    /// The command that carries the list.
+    pub fn command(&self) -> Vec<u8> {
+        self.command_telling(self.0.len())
+    }
+
+    /// The command that carries the list and tells another length of it.
+    pub fn command_telling(&self, length: usize) -> Vec<u8> {
+        let mut message = vec![COMMAND];
+        message.extend((length as u16).to_be_bytes());
+        message.extend(&self.0);
+        message
+    }
+
+    /// Octets of the list.
+    pub fn length(&self) -> usize {
+        self.0.len()
+    }
+
+    /// Cuts the list to so many octets.
+    pub fn truncate(&mut self, length: usize) {
+        self.0.truncate(length);
+    }
+
+    /// Adds an operation that is a code and a name.
+    pub fn named(&mut self, code: u8, name: u16) {
+        self.0.push(code);
+        self.0.extend(name.to_be_bytes());
+    }
+}

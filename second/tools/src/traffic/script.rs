@@ -1,0 +1,291 @@
+//! Scripts for `rig`: scenes of calls, played on a rig beside the script to know its state.
+
+use std::io::{self, Sink, Write};
+
+use port::table::{SetBy, SIZE, TABLE, TIMER};
+use port::{take_message, FRESH};
+use programs::rig::{code, Rig, HEAD, MOST_LENT, MOST_ROOM};
+use programs::stream::Lines;
+
+use super::dice::Dice;
+use super::pieces::{is_cut, shorten};
+use super::{commands, memories, values};
+
+/// A room that is large enough for every reply.
+const AMPLE: usize = 4_096;
+/// Longest message that a record can carry beside the room length.
+const LONGEST_MESSAGE: usize = 65_533;
+/// Least room for a notification.
+const LEAST_NOTIFICATION_ROOM: usize = 1_600;
+/// Nanoseconds around the edges of the delay conversion.
+const DELAYS: [u64; 8] = [
+    0,
+    1,
+    (1 << 47) - 2,
+    (1 << 47) - 1,
+    1 << 47,
+    1 << 48,
+    i64::MAX as u64,
+    u64::MAX,
+];
+
+/// How often a script does what makes it long.
+#[derive(Clone, Copy)]
+pub struct Pace {
+    /// Kinds of scenes to choose from. Those from 22 on lend memory or make it fresh.
+    scenes: usize,
+    /// Memory is shown after one call in so many.
+    memory: usize,
+    /// The room is shown after one call in so many.
+    room: usize,
+    /// A message has an ample room once in so many times, else mostly one about as long as its
+    /// reply.
+    ample: usize,
+}
+
+/// Lends and shows as often as calls are made.
+pub const OFTEN: Pace = Pace {
+    scenes: 26,
+    memory: 3,
+    room: 3,
+    ample: 2,
+};
+
+/// Makes more calls than it lends and shows, and shows memory more often than rooms.
+pub const SELDOM: Pace = Pace {
+    scenes: 23,
+    memory: 5,
+    room: 36,
+    ample: 3,
+};
+
+/// Writes a script of `count` records.
+pub fn write<W: Write>(dice: &mut Dice, pace: Pace, count: u64, sink: &mut W) -> io::Result<()> {
+    let cut = is_cut(dice);
+    let mut script = Script {
+        dice,
+        pace,
+        rig: Rig::new(Lines::new(io::sink())),
+        sink,
+        left: count,
+        cut,
+    };
+    while script.left > 0 {
+        script.scene()?;
+    }
+    Ok(())
+}
+
+struct Script<'a, W> {
+    dice: &'a mut Dice,
+    pace: Pace,
+    rig: Rig<Sink>,
+    sink: &'a mut W,
+    left: u64,
+    cut: bool,
+}
+
+impl<W: Write> Script<'_, W> {
+    /// One scene. Memory is sound before it and after it.
+    fn scene(&mut self) -> io::Result<()> {
+        match self.dice.below(self.pace.scenes) {
+            0..=12 => self.message(),
+            13..=14 => self.local_value(),
+            15..=18 => self.report(),
+            19 => self.build(),
+            20 => self.expiry(),
+            21 => self.delay(),
+            22..=24 => self.change_memory(),
+            _ if self.dice.one_in(4) => self.record(code::MAKE_FRESH, &[]),
+            _ => self.change_memory(),
+        }
+    }
+
+    /// Any call, on any memory.
+    fn call(&mut self) -> io::Result<()> {
+        match self.dice.below(8) {
+            0..=2 => {
+                let message = commands::message(self.dice, &FRESH);
+                self.send(&message)
+            }
+            3..=4 => self.local_value(),
+            5..=6 => self.build(),
+            _ => self.expiry(),
+        }
+    }
+
+    fn message(&mut self) -> io::Result<()> {
+        let message = commands::message(self.dice, &self.rig.memory);
+        self.send(&message)
+    }
+
+    fn send(&mut self, message: &[u8]) -> io::Result<()> {
+        let message = &message[..message.len().min(LONGEST_MESSAGE)];
+        let room = self.room_for(message);
+        let body = [&(room as u16).to_be_bytes(), message].concat();
+        self.record(code::MESSAGE, &body)?;
+        self.show()
+    }
+
+    /// A room size, often one around the length of the reply.
+    fn room_for(&mut self, message: &[u8]) -> usize {
+        if self.dice.one_in(self.pace.ample) {
+            return AMPLE;
+        }
+        let mut room = [0; AMPLE];
+        let reply = take_message(&mut self.rig.memory.clone(), message, &mut room).length;
+        match self.dice.below(12) {
+            0 => self.dice.below(reply + 1),
+            1 => self.dice.between(AMPLE - 1, AMPLE + 1),
+            2 => self.dice.between(MOST_ROOM - 1, MOST_ROOM + 1),
+            3 => usize::from(u16::MAX),
+            _ => (reply + self.dice.below(5)).saturating_sub(2),
+        }
+    }
+
+    fn local_value(&mut self) -> io::Result<()> {
+        let index = values::place(self.dice, SetBy::Port);
+        let mut name = TABLE[index].name;
+        let value = match self.dice.below(10) {
+            0 => Vec::new(),
+            1 => values::off(self.dice, &TABLE[index]),
+            2 => {
+                name = values::name(self.dice);
+                vec![1]
+            }
+            _ => values::permitted(self.dice, &TABLE[index]),
+        };
+        let body = [&name.to_be_bytes(), value.as_slice()].concat();
+        self.record(code::LOCAL_VALUE, &body)?;
+        self.show()
+    }
+
+    /// Subscriptions, local changes, a notification, and expiries or an acknowledgement.
+    fn report(&mut self) -> io::Result<()> {
+        if self.dice.one_in(2) {
+            let message = commands::subscriptions(self.dice);
+            self.send(&message)?;
+        }
+        for _ in 0..self.dice.below(4) {
+            self.local_value()?;
+        }
+        self.build()?;
+        let mut expiries = self.dice.pick(&[0, 0, 1, 2, 4, 5, 6]);
+        while expiries > 0 && (self.is_waiting() || self.dice.one_in(8)) {
+            self.expiry()?;
+            expiries -= 1;
+        }
+        if self.is_waiting() && self.dice.one_in(2) {
+            let message = commands::acknowledgement(self.dice);
+            self.send(&message)?;
+        }
+        Ok(())
+    }
+
+    fn is_waiting(&self) -> bool {
+        self.rig.memory.get(TIMER) == Some(&1)
+    }
+
+    fn build(&mut self) -> io::Result<()> {
+        let under = LEAST_NOTIFICATION_ROOM - 1;
+        let rooms = [AMPLE, AMPLE, LEAST_NOTIFICATION_ROOM, 1_601, 65_535];
+        let room = if self.dice.one_in(5) {
+            self.dice.pick(&[under, under, 0])
+        } else {
+            self.dice.pick(&rooms)
+        };
+        self.record(code::BUILD, &(room as u16).to_be_bytes())?;
+        self.show()
+    }
+
+    fn expiry(&mut self) -> io::Result<()> {
+        self.record(code::EXPIRY, &[])?;
+        self.show()
+    }
+
+    fn delay(&mut self) -> io::Result<()> {
+        let any = self.dice.bits() >> self.dice.below(64);
+        let nanoseconds = match self.dice.below(DELAYS.len() + 4) {
+            edge if edge < DELAYS.len() => DELAYS[edge],
+            _ => any,
+        };
+        self.record(code::DELAY, &nanoseconds.to_be_bytes())
+    }
+
+    /// Lends other memory, calls on it, and lends sound memory again.
+    fn change_memory(&mut self) -> io::Result<()> {
+        let sound = self.rig.memory.clone();
+        let changed = memories::changed(self.dice, &sound);
+        self.record(code::LEND, &changed)?;
+        for _ in 0..self.dice.between(1, 3) {
+            self.call()?;
+        }
+        if self.rig.memory.len() == SIZE && self.dice.one_in(4) {
+            self.record(code::MAKE_FRESH, &[])
+        } else {
+            if self.dice.one_in(4) {
+                self.record(code::MAKE_FRESH, &[])?;
+            }
+            self.record(code::LEND, &sound)
+        }
+    }
+
+    /// Shows memory and room, as often as the pace has it.
+    fn show(&mut self) -> io::Result<()> {
+        let often = [
+            (code::SHOW_MEMORY, self.pace.memory),
+            (code::SHOW_ROOM, self.pace.room),
+        ];
+        for (code, calls) in often {
+            if self.dice.one_in(calls) {
+                self.record(code, &[])?;
+            }
+        }
+        Ok(())
+    }
+
+    /// Writes a record and plays it, unless the script is full.
+    fn record(&mut self, code: u8, body: &[u8]) -> io::Result<()> {
+        if self.left == 0 {
+            return Ok(());
+        }
+        self.left -= 1;
+        self.rig.record(code, body)?;
+        let mut record = Self::joined(code, body);
+        if self.cut && self.left == 0 {
+            record = self.faulty(record);
+        }
+        self.sink.write_all(&record)
+    }
+
+    fn joined(code: u8, body: &[u8]) -> Vec<u8> {
+        let [high, low] = (body.len() as u16).to_be_bytes();
+        [&[code, high, low], body].concat()
+    }
+
+    /// A record cut short, with an unknown code, or with a body of the wrong length.
+    fn faulty(&mut self, mut record: Vec<u8>) -> Vec<u8> {
+        match self.dice.below(3) {
+            0 => shorten(self.dice, &mut record, HEAD),
+            1 => record[0] = self.dice.pick(&[0x09, 0x10, 0xFF]),
+            _ => {
+                let wrong = [
+                    (code::MAKE_FRESH, 1),
+                    (code::MESSAGE, 1),
+                    (code::LOCAL_VALUE, 1),
+                    (code::BUILD, 1),
+                    (code::BUILD, 3),
+                    (code::EXPIRY, 1),
+                    (code::LEND, MOST_LENT + 1),
+                    (code::SHOW_MEMORY, 1),
+                    (code::SHOW_ROOM, 1),
+                    (code::DELAY, 7),
+                    (code::DELAY, 9),
+                ];
+                let (code, length) = self.dice.pick(&wrong);
+                record = Self::joined(code, &vec![0; length]);
+            }
+        }
+        record
+    }
+}

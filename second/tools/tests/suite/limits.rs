@@ -1,0 +1,152 @@
+//! What is over its limit: it is marked in the table and the status is 1, also that of `./measure`.
+
+use std::path::{Path, PathBuf};
+use std::process::{Command, Output};
+use std::{env, fs};
+
+use kit::files::ROOT;
+use tools::measure::table::{Figure, Row, Table};
+
+use crate::measure::{file, on_path, rows, TOOLS};
+use crate::process::{text, BRIDGE, MEASURE};
+use crate::{gate, stack};
+
+/// A call that takes as many octets of stack as it may, and one that takes 8 more.
+fn calls() -> [String; 2] {
+    [3_124 - 40 - 72 + 40, 3_124 - 40 - 72 + 48].map(|octets: i32| {
+        let deeper = format!("${octets}, %rsp");
+        assert!(stack::LLVM.contains("$40, %rsp"));
+        stack::LLVM.replace("$40, %rsp", &deeper)
+    })
+}
+
+/// The PATH with what stands in for other programs.
+fn path() -> String {
+    format!("{TOOLS}:{}", env::var("PATH").unwrap())
+}
+
+#[test]
+fn a_table_is_aligned() {
+    let row = |what: &str, figure, each, from: &str| Row {
+        what: what.into(),
+        figure,
+        each,
+        from: from.into(),
+    };
+    let ratio = Figure::Ratio(Some(1.0 / 3.0), 12.5);
+    let table = Table(vec![
+        row("a", ratio, Some([0.1, 0.3]), "b"),
+        row("äöü", Figure::None, None, "some words"),
+        row("c", Figure::Octets(3_125, Some(3_124)), None, ""),
+        row("d", Figure::Octets(7, None), None, ""),
+        row("e", Figure::Ratio(None, 1.0), None, ""),
+    ]);
+    let expected = "\
+| what |         measured |       limit | microseconds a message | from       |
+| ---- | ---------------: | ----------: | ---------------------: | ---------- |
+| a    |             0.33 |       12.50 |     0.10 (second 0.30) | b          |
+| äöü  |                  |             |                        | some words |
+| c    | 3125 octets over | 3124 octets |                        |            |
+| d    |         7 octets |             |                        |            |
+| e    |                - |        1.00 |                        |            |
+";
+    assert_eq!(table.to_string(), expected);
+    assert_eq!(table.over(), 1);
+}
+
+#[test]
+fn a_figure_is_held_to_its_limit_as_it_is_shown() {
+    let ratio = |ratio| Figure::Ratio(Some(ratio), 1.2);
+    for (figure, over) in [
+        (ratio(1.0), false),
+        (ratio(1.2), false),
+        (ratio(1.204), false),
+        (ratio(1.206), true),
+        (ratio(70.0), true),
+        (Figure::Ratio(None, 1.2), false),
+        (Figure::Octets(3_124, Some(3_124)), false),
+        (Figure::Octets(3_125, Some(3_124)), true),
+        (Figure::Octets(3_125, None), false),
+        (Figure::None, false),
+    ] {
+        assert_eq!(figure.is_over(), over, "{figure:?}");
+    }
+}
+
+#[test]
+fn what_is_over_its_limit_is_marked_and_gives_status_1() {
+    // Times of what is not compiled are not measured, so that none of them is over its limit.
+    let script = format!("{TOOLS}/silent");
+    let [most, over] = calls();
+    let [most, over] = [("most.a", most), ("over.a", over)].map(|(n, l)| file(n, l.as_bytes()));
+    let late = gate::LOG.replace("1m30.500s", "10m3.100s");
+    let [soon, late] = [("soon.log", gate::LOG), ("late.log", &late)];
+    let [soon, late] = [soon, late].map(|(name, log)| file(name, log.as_bytes()));
+    for (library, log, figures, status) in [
+        (&most, &soon, ["3124 octets", "0.15"], 0),
+        (&over, &soon, ["3132 octets over", "0.15"], 1),
+        (&most, &late, ["3124 octets", "1.01 over"], 1),
+        (&over, &late, ["3132 octets over", "1.01 over"], 1),
+    ] {
+        let words = ["--stack", "call", library, "--gate", log, &script, *BRIDGE];
+        let output = on_path(&path(), &words);
+        let rows = rows(&output);
+        let [stack, _, gate] = rows[rows.len() - 3..] else {
+            panic!("{rows:?}");
+        };
+        assert_eq!([stack[1], gate[1]], figures);
+        assert_eq!([stack[2], gate[2]], ["3124 octets", "1.00"]);
+        assert_eq!(output.status.code(), Some(status));
+    }
+}
+
+/// A folder in which `./measure` finds all that it needs, but for what stands in.
+fn repository(name: &str) -> PathBuf {
+    let folder = Path::new(env!("CARGO_TARGET_TMPDIR")).join(name);
+    let release = folder.join("second/target/release");
+    for part in [
+        "crates",
+        "target/rlib",
+        "target/stamp",
+        "second/target/release",
+    ] {
+        fs::create_dir_all(folder.join(part)).unwrap();
+    }
+    fs::write(folder.join("crates.txt"), "").unwrap();
+    fs::copy(format!("{ROOT}/measure"), folder.join("measure")).unwrap();
+    fs::copy(MEASURE, release.join("measure")).unwrap();
+    fs::copy(*BRIDGE, release.join("bridge")).unwrap();
+    folder
+}
+
+/// What `./measure` says before it measures.
+const SAID: &str = "\
+measure: proves and builds first what is not yet, which takes some minutes if nothing is
+measure: measures, which takes some minutes
+";
+
+/// Runs `./measure` with a bridge that is not compiled; what it says before is taken off. What stands
+/// in for `rt` makes a library of the listing, and what stands in for `cargo` builds nothing.
+fn script(name: &str, listing: &str) -> Output {
+    let mut command = Command::new(repository(name).join("measure"));
+    command.arg(format!("{TOOLS}/silent")).env("PATH", path());
+    let mut output = command.env("LISTING", listing).output().unwrap();
+    let said: Vec<u8> = output.stderr.drain(..SAID.len()).collect();
+    assert_eq!(text(&said), SAID);
+    output
+}
+
+#[test]
+fn the_status_comes_through_the_script() {
+    let [most, over] = calls().map(|listing| listing.replace("call>", "probe_message>"));
+    let figure = |output: &Output| rows(output)[rows(output).len() - 2][1].to_owned();
+    let output = script("within", &most);
+    assert_eq!(figure(&output), "3124 octets");
+    assert_eq!(output.status.code(), Some(0));
+    let output = script("beyond", &over);
+    assert_eq!(figure(&output), "3132 octets over");
+    assert_eq!(output.status.code(), Some(1));
+    // What cannot be read at all is told from that by its status.
+    let output = script("unread", "");
+    assert_eq!((output.status.code(), text(&output.stdout)), (Some(2), ""));
+}

@@ -1,0 +1,13 @@
+//! All tests of the tools, and of the streams that are stored with the proved programs, in one program.
+
+mod compare;
+mod gate;
+mod limits;
+mod measure;
+mod process;
+mod stack;
+mod stored;
+mod stored_script;
+mod streams;
+mod traffic;
+mod worst;
