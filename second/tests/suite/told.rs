@@ -7,8 +7,8 @@
 //! to end with status 0: an example of a failure ends in `; echo $?`. Before a `rust` block the last
 //! line names its file in backticks.
 
-use std::fs;
 use std::path::{Path, PathBuf};
+use std::{env, fs, iter};
 
 use crate::toolchain::{Place, ROOT};
 
@@ -33,7 +33,12 @@ fn blocks(document: &str) -> Result<Vec<Block<'_>>, String> {
             (Some(block), _) => block.lines.push(line),
             (None, Some(mark)) => {
                 let lines = Vec::new();
-                open = Some(Block { at, mark, before, lines });
+                open = Some(Block {
+                    at,
+                    mark,
+                    before,
+                    lines,
+                });
             }
             (None, None) if fence || line.starts_with("    ") || line.starts_with('\t') => {
                 return Err(format!("line {at}: a block without a mark"));
@@ -62,7 +67,11 @@ fn examples(block: &Block) -> Result<Vec<Example>, String> {
         let last = examples.last_mut();
         if let Some(command) = line.strip_prefix("$ ") {
             let (command, prints) = (command.to_string(), String::new());
-            examples.push(Example { at, command, prints });
+            examples.push(Example {
+                at,
+                command,
+                prints,
+            });
         } else if let Some(last) = last {
             if last.prints.is_empty() && last.command.ends_with('\\') {
                 last.command += &format!("\n{line}");
@@ -85,12 +94,16 @@ fn quoted(block: &Block) -> Result<(), String> {
     let at = block.at;
     let named = block.before.split('`').skip(1).step_by(2);
     let file = named.filter(|name| name.starts_with("crates/")).last();
-    let file = file.ok_or(format!("line {at}: the line before names no file of crates/"))?;
+    let file = file.ok_or(format!(
+        "line {at}: the line before names no file of crates/"
+    ))?;
     let code = fs::read_to_string(format!("{ROOT}/{file}")).map_err(|e| format!("{file}: {e}"))?;
     let code: Vec<&str> = code.lines().map(str::trim_start).collect();
     let lines: Vec<&str> = block.lines.iter().map(|line| line.trim_start()).collect();
     let stands = !lines.is_empty() && code.windows(lines.len()).any(|part| part == lines);
-    stands.then_some(()).ok_or(format!("line {at}: this does not stand in {file}"))
+    stands
+        .then_some(())
+        .ok_or(format!("line {at}: this does not stand in {file}"))
 }
 
 /// The examples of a document, all of whose blocks are as they should be.
@@ -112,8 +125,14 @@ fn checked(document: &str) -> Result<Vec<Example>, String> {
 
 /// The repository but for what is built in it.
 fn whole() -> Vec<PathBuf> {
-    let root = fs::read_dir(ROOT).unwrap().map(|entry| entry.unwrap().path());
-    let left_out = |path: &PathBuf| [".git", "target", "second"].iter().any(|n| path.ends_with(n));
+    let root = fs::read_dir(ROOT)
+        .unwrap()
+        .map(|entry| entry.unwrap().path());
+    let left_out = |path: &PathBuf| {
+        [".git", "target", "second"]
+            .iter()
+            .any(|n| path.ends_with(n))
+    };
     root.filter(|path| !left_out(path)).collect()
 }
 
@@ -124,12 +143,19 @@ fn run(place: &Place, examples: &[Example]) -> Result<(), String> {
         let (command, file) = (&example.command, format!("\"$KIT/{index}\""));
         script += &format!("{{ {command}\n}} >{file}; echo $? >>{file}\n");
     }
-    place.command(&script).output().unwrap();
+    // The tools of this machine, but no toolchain of it.
+    let path = env::var_os("PATH").unwrap();
+    let path = iter::once(place.kit("bin")).chain(env::split_paths(&path));
+    let mut bash = place.command(&script);
+    bash.env("PATH", env::join_paths(path).unwrap());
+    bash.output().unwrap();
     for (index, example) in examples.iter().enumerate() {
         let printed = fs::read_to_string(place.kit(&index.to_string())).unwrap_or_default();
         if printed != format!("{}0\n", example.prints) {
             let Example { at, command, .. } = example;
-            return Err(format!("line {at}: '{command}' printed, with its status:\n{printed}"));
+            return Err(format!(
+                "line {at}: '{command}' printed, with its status:\n{printed}"
+            ));
         }
     }
     Ok(())
@@ -152,12 +178,21 @@ fn what_is_no_example_is_told() {
     let place = "In `crates/bridge/src/main.rt`:\n";
     let examples = checked(&format!("# A\n\n{example}\n{place}\n{code}")).unwrap();
     assert_eq!(examples[1].command, "cd docs && \\\n  ls LAWS.md");
-    assert_eq!(examples.iter().map(|e| e.at).collect::<Vec<_>>(), [4, 7, 10]);
+    assert_eq!(
+        examples.iter().map(|e| e.at).collect::<Vec<_>>(),
+        [4, 7, 10]
+    );
     let copy = Place::with(&[Path::new(ROOT).join("docs")]);
     assert_eq!(run(&copy, &examples), Ok(()));
     for (command, prints) in [("echo a", "b\n"), ("echo a; false", "a\n"), ("echo a", "")] {
-        let wrong = Example { at: 3, command: command.into(), prints: prints.into() };
-        assert!(run(&copy, &[wrong]).unwrap_err().starts_with("line 3: 'echo a"));
+        let wrong = Example {
+            at: 3,
+            command: command.into(),
+            prints: prints.into(),
+        };
+        assert!(run(&copy, &[wrong])
+            .unwrap_err()
+            .starts_with("line 3: 'echo a"));
     }
     for (document, why) in [
         ("# Nothing\n", "no example"),
@@ -172,8 +207,14 @@ fn what_is_no_example_is_told() {
         ("```console\na\n```\n", "line 2: output without a command"),
         ("```console\n```\n", "line 1: no command"),
         (code, "line 1: the line before names no file of crates/"),
-        (&format!("{place}{}", code.replace("[0u8", "[1u8")), "line 2: this does not stand in crates/bridge/src/main.rt"),
-        (&format!("{place}{}", code.replace("let", "\nlet")), "line 2: this does not stand in crates/bridge/src/main.rt"),
+        (
+            &format!("{place}{}", code.replace("[0u8", "[1u8")),
+            "line 2: this does not stand in crates/bridge/src/main.rt",
+        ),
+        (
+            &format!("{place}{}", code.replace("let", "\nlet")),
+            "line 2: this does not stand in crates/bridge/src/main.rt",
+        ),
     ] {
         assert_eq!(checked(document).unwrap_err(), why, "{document:?}");
     }

@@ -49,7 +49,6 @@ impl Place {
             fs::create_dir_all(kit.join(folder)).unwrap();
         }
         symlink(STAND_IN, kit.join("bin/rt")).unwrap();
-        symlink(STAND_IN, kit.join("bin/cargo")).unwrap();
         symlink(STAND_IN, kit.join(emulator).join("qemu-x86_64")).unwrap();
         symlink(BRIDGE, kit.join("programs/bridge")).unwrap();
         symlink(RIG, kit.join("programs/rig")).unwrap();
@@ -79,6 +78,7 @@ impl Place {
                 .unwrap_or_else(|| panic!("no {tool}"));
             symlink(found, tools.join(tool)).unwrap();
         }
+        symlink(STAND_IN, tools.join("cargo")).unwrap();
     }
 
     /// The starters and a few crates, of which nothing is built yet.
@@ -226,7 +226,7 @@ fn a_failed_proof_is_told_with_the_log() {
                 ROOT/target/bridge.log, at last:\n";
     let sample = "./bridge samples/three-frames.hex";
     let (status, out, err) = place.shell(sample);
-    assert_eq!((status, out.as_str()), (1, ""));
+    assert_eq!((status, out.as_str()), (2, ""));
     assert!(err.starts_with(&format!("{FIRST}{told}")), "{err}");
     assert!(
         err.contains("\nfn mid::first: not proved\n")
@@ -234,7 +234,7 @@ fn a_failed_proof_is_told_with_the_log() {
     );
     assert!(!err.contains("library"), "{err}");
     // It is tried again, and goes on where it was.
-    assert_eq!(place.shell(sample).0, 1);
+    assert_eq!(place.shell(sample).0, 2);
     fs::remove_file(place.kit("fault")).unwrap();
     let (status, out, err) = place.shell(sample);
     assert_eq!((status, out.as_str()), (0, ANSWERS));
