@@ -13,7 +13,7 @@ use std::{env, fs, iter};
 use crate::toolchain::{Place, ROOT};
 
 /// The documents whose examples are run. docs/HOST.md is to stand here as soon as it is written.
-const DOCUMENTS: [&str; 1] = ["README.md"];
+const DOCUMENTS: &[&str] = &["README.md"];
 
 /// A block: the line that it starts at, its mark, the last line of text before it, its lines.
 struct Block<'a> {

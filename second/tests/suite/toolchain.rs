@@ -19,7 +19,7 @@ const STAND_IN: &str = concat!(env!("CARGO_MANIFEST_DIR"), "/tests/tools/rt");
 /// What the starters call. Nothing else is on the PATH, and so no toolchain but the one here.
 const TOOLS: &str =
     "bash sh cat chmod cmp cp cut dirname env find flock grep head ln mkdir mktemp \
-                     mv printf ps readlink realpath rm sed setsid sleep sort tail touch tr uname";
+                     mv printf ps readlink realpath rm sed setsid sleep sort tail touch tr";
 const CRATES: &str = "# NAME: crates below it\nlow: bytes\nmid: low\nbridge: mid low io\n\
                       rig: mid io\napart: low\n";
 /// What the sample of three frames is answered with.
@@ -49,6 +49,8 @@ impl Place {
             fs::create_dir_all(kit.join(folder)).unwrap();
         }
         symlink(STAND_IN, kit.join("bin/rt")).unwrap();
+        symlink(STAND_IN, kit.join("bin/uname")).unwrap();
+        fs::write(kit.join("machine"), env::consts::ARCH).unwrap();
         symlink(STAND_IN, kit.join(emulator).join("qemu-x86_64")).unwrap();
         symlink(BRIDGE, kit.join("programs/bridge")).unwrap();
         symlink(RIG, kit.join("programs/rig")).unwrap();
@@ -319,20 +321,37 @@ fn a_toolchain_is_wanted_only_to_build() {
         "",
         why,
     );
-    // But for its emulator, which another processor wants.
-    if env::consts::ARCH != "x86_64" {
-        let place = Place::built();
-        place.shell("mv \"$KIT/on\" \"$KIT/gone\"");
-        let (status, out, err) = place.shell(sample);
-        assert_eq!((status, out.as_str()), (2, ""));
-        assert!(err.contains("the toolchain has no emulator"), "{err}");
-        let (status, out, err) = place.shell(&format!("rm \"$KIT/bin/rt\"; {sample}"));
-        assert_eq!((status, out.as_str()), (2, ""));
-        assert!(
-            err.contains("the toolchain's emulator is no longer at "),
-            "{err}"
-        );
-    }
+}
+
+#[test]
+fn another_processor_than_x86_64_wants_the_emulator() {
+    let place = Place::fresh();
+    let sample = "./bridge samples/three-frames.hex";
+    place.shell(
+        "echo riscv64 >\"$KIT/machine\"; mv \"$KIT\"/on/* \"$KIT/on/riscv64\"; ./bridge </dev/null",
+    );
+    // Where it stands was kept when the program was built.
+    place.assert_shell(
+        &format!("mv \"$KIT/bin/rt\" \"$KIT/rt\"; {sample}"),
+        0,
+        ANSWERS,
+        "",
+    );
+    let (status, out, err) = place.shell(&format!("mv \"$KIT/on\" \"$KIT/gone\"; {sample}"));
+    assert_eq!((status, out.as_str()), (2, ""));
+    assert!(
+        err.contains("the toolchain's emulator is no longer at "),
+        "{err}"
+    );
+    let (status, out, err) = place.shell(&format!("mv \"$KIT/rt\" \"$KIT/bin/rt\"; {sample}"));
+    assert_eq!((status, out.as_str()), (2, ""));
+    assert!(err.contains("the toolchain has no emulator"), "{err}");
+    place.assert_shell(
+        &format!("echo x86_64 >\"$KIT/machine\"; {sample}"),
+        0,
+        ANSWERS,
+        "",
+    );
 }
 
 #[test]
