@@ -131,7 +131,7 @@ fn every_clause_that_is_cited_exists() {
         assert_eq!(unknown(&cited(&rules, word), &clauses), [], "{word}");
     }
     let mut all = Vec::new();
-    files(root(), &mut all);
+    files(Path::new(ROOT), &mut all);
     let mut count = 0;
     for (path, text) in all {
         let cited = cited(&text, "RULES ");
@@ -147,7 +147,7 @@ fn every_clause_that_is_cited_exists() {
 #[test]
 fn no_file_names_rules_that_are_not_here() {
     let mut all = Vec::new();
-    files(root(), &mut all);
+    files(Path::new(ROOT), &mut all);
     assert!(all.len() > 400, "{} files", all.len());
     for (path, text) in all {
         assert!(!names_another(&text), "{}", path.display());

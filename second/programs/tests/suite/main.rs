@@ -1,4 +1,4 @@
-//! All tests of the programs `bridge` and `rig`, of the documents, of names that two files share, and of the files, in one program.
+//! All tests of the programs `bridge` and `rig` and of what starts them, of the documents and their examples, and of the files, in one program.
 
 mod bridge;
 mod clauses;
@@ -7,4 +7,7 @@ mod files;
 mod process;
 mod rig;
 mod samples;
+mod starters;
+mod told;
+mod toolchain;
 mod wire;
