@@ -1,4 +1,4 @@
-//! The samples: each `samples/NAME.hex`, turned to frames, gives the lines of `samples/NAME.out`.
+//! The samples: each `samples/NAME.hex`, turned to octets, gives the lines of `samples/NAME.out`.
 
 use std::fs;
 use std::path::{Path, PathBuf};
@@ -6,7 +6,7 @@ use std::path::{Path, PathBuf};
 use kit::files::{frames, sample, ROOT};
 use kit::hex;
 
-use crate::process::{lines, BRIDGE};
+use crate::process::{lines, BRIDGE, RIG};
 
 /// Paths of the samples that have a file with the given ending, without it.
 fn samples(ending: &str) -> Vec<PathBuf> {
@@ -30,6 +30,18 @@ fn promised(sample: &str) -> Vec<&str> {
     lines.filter_map(|l| l.strip_prefix("# prints: ")).collect()
 }
 
+/// The program that a sample is for, by the command in its comments.
+fn program(sample: &Path, source: &str) -> &'static str {
+    let name = sample.file_name().unwrap().to_str().unwrap();
+    let told =
+        |program: &str| source.contains(&format!("# Run it:  ./{program} samples/{name}.hex\n"));
+    match (told("bridge"), told("rig")) {
+        (true, false) => BRIDGE,
+        (false, true) => RIG,
+        _ => panic!("{sample:?} tells no program"),
+    }
+}
+
 #[test]
 fn samples_give_their_lines() {
     let samples = samples("hex");
@@ -37,7 +49,7 @@ fn samples_give_their_lines() {
     assert_eq!(samples, self::samples("out"));
     for sample in samples {
         let source = text(&sample, "hex");
-        let printed = lines(BRIDGE, &frames(&source));
+        let printed = lines(program(&sample, &source), &frames(&source));
         let stored = text(&sample, "out");
         assert!(stored.ends_with('\n'), "{sample:?}");
         assert_eq!(printed, stored.lines().collect::<Vec<_>>(), "{sample:?}");

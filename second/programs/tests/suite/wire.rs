@@ -57,5 +57,8 @@ fn another_number_or_a_missing_name_is_seen() {
     let code = constants("pub const TYPE_NOTIFY_ACK: u8 = 0x0A;\npub const MORE: usize = 7;\n");
     assert_eq!(defined["TYPE_NOTIFY_ACK"], 10);
     assert_eq!((code["TYPE_NOTIFY_ACK"], code["MORE"]), (10, 7));
-    assert_eq!(constants("pub const TYPE: u8 = 1;\n").get("TYPE_NOTIFY_ACK"), None);
+    assert_eq!(
+        constants("pub const TYPE: u8 = 1;\n").get("TYPE_NOTIFY_ACK"),
+        None
+    );
 }
