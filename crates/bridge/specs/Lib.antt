@@ -1,2 +1,2 @@
--- What the contracts of `bridge` cite beside `meaning` and `text`.
+-- What the contracts of `bridge` cite beside `meaning`, `text` and `stdio`.
 pub mod Frames

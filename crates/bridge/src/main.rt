@@ -1,13 +1,13 @@
 // The program `bridge` (RULES 16): frames from standard input, one line a frame to standard output, over one memory.
 // Input is read in large blocks, and lines are written out in blocks.
-use input::Got;
-use input::Next;
-use libc::STDERR_FILENO;
-use libc::STDOUT_FILENO;
-ghost use Prim.Native.Nat.{_+_, _≤_};
+use stdio::Input;
+use stdio::Next;
+ghost use Prim.Native.Nat.{_≤_};
 ghost use mathlib.Core.Path.{_≡_};
+ghost use mathlib.Core.Bool.{false};
 ghost use lib.ListN.{length};
-ghost use Rattle.bridge.specs.Frames.{Batched, Serves};
+ghost use Rattle.stdio.specs.Taking.{Batched};
+ghost use Rattle.bridge.specs.Frames.{frames, port, Serves};
 
 // Octets of a frame's length.
 const HEAD: usize = 2;
@@ -41,15 +41,16 @@ fn answer_frames(
     out: &mut [u8],
 ) -> Batch
     requires { ⌜ (from ≤ length (now held)) × (length (now room) ≡ 4096) × (length (now out) ≡ 73733) ⌝ }
-    ensures { λ r. ⌜ Batched (now (held .entry)) (record { memory = now (memory .entry); room = now (room .entry); from = from }) r (now (memory .exit)) (now (room .exit)) (now (out .exit)) ⌝ }
+    ensures { λ r. ⌜ Batched frames (now (held .entry)) (port (now (memory .entry)) (now (room .entry)) from) (port (now (memory .exit)) (now (room .exit)) (r .from)) false (r .at) (now (out .exit)) ⌝ }
 {
     let mut next = from;
     let mut at = 0;
     while at < DUE {
-        let Next::Whole(end) = input::next_piece(held, next, HEAD) else {
+        let Next::Whole(end) = stdio::next_piece(held, next, HEAD) else {
             return Batch { from: next, at };
         };
-        at = text::answer_message(memory, &held[next + HEAD..end], room, out, at);
+        let outcome = endpoint::message(memory, &held[next + HEAD..end], room);
+        at = text::write_outcome(out, at, outcome, room);
         next = end;
     }
     Batch { from: next, at }
@@ -59,12 +60,12 @@ fn answer_frames(
 // them before the next read.
 fn serve(memory: &mut [u8], held: &[u8], room: &mut [u8], out: &mut [u8]) -> Served
     requires { ⌜ (length (now room) ≡ 4096) × (length (now out) ≡ 73733) ⌝ }
-    ensures { λ r. ⌜ Serves (now (held .entry)) (record { memory = now (memory .entry); room = now (room .entry); from = 0 }) r (now (memory .exit)) (now (room .exit)) ⌝ }
+    ensures { λ r. ⌜ Serves (now (held .entry)) (port (now (memory .entry)) (now (room .entry)) 0) r (now (memory .exit)) (now (room .exit)) ⌝ }
 {
     let mut from = 0;
     loop {
         let batch = answer_frames(memory, held, from, room, out);
-        if !io::write_all(STDOUT_FILENO, &out[..batch.at]) {
+        if !stdio::write_out(&out[..batch.at], b"bridge") {
             return Served::Closed;
         }
         from = batch.from;
@@ -79,35 +80,25 @@ fn serve(memory: &mut [u8], held: &[u8], room: &mut [u8], out: &mut [u8]) -> Ser
 fn run(memory: &mut [u8], block: &mut [u8], room: &mut [u8], out: &mut [u8])
     requires { ⌜ (length (now block) ≡ 131072) × (length (now room) ≡ 4096) × (length (now out) ≡ 73733) ⌝ }
 {
-    let mut left = 0;
+    let mut from = 0;
+    let mut to = 0;
     let mut turns = u64::MAX;
     while turns > 0 {
         turns -= 1;
-        let got = match input::read_on(block, left) {
-            Got::Octets(n) => n,
-            Got::End => {
-                if left > 0 {
-                    let end = text::write_cut(out, 0);
-                    io::write_all(STDOUT_FILENO, &out[..end]);
-                }
-                return;
-            }
-            Got::Failed => {
-                io::write_all(STDERR_FILENO, b"bridge: standard input cannot be read\n");
-                return;
-            }
-        };
-        let to = left + got;
-        let Served::Rest(from) = serve(memory, &block[..to], room, out) else {
+        let Input::Held(end) = stdio::read_more(block, from, to, b"bridge") else {
             return;
         };
-        left = input::to_front(block, from, to);
+        let Served::Rest(rest) = serve(memory, &block[..end], room, out) else {
+            return;
+        };
+        from = rest;
+        to = end;
     }
 }
 
 fn main() {
     let mut memory = [0u8; 2100];
-    memory::make_fresh(&mut memory);
+    endpoint::make_fresh(&mut memory);
     let mut block = [0u8; INPUT];
     let mut room = [0u8; ROOM];
     let mut out = [0u8; DUE + LINE];

@@ -1,4 +1,2 @@
--- Laws of records: their codes, what is left in the arrays, and what the program holds.
-pub mod Codes
-pub mod Lend
-pub mod Held
+-- Laws of what the program holds and takes.
+pub mod Script

@@ -1,3 +1,2 @@
--- What the contracts of `rig` cite beside `meaning`, `endpoint` and `text`.
-pub mod Records
-pub mod Takes
+-- What the contracts of `rig` cite beside `meaning`, `text`, `stdio` and `script`.
+pub mod Script

@@ -4,12 +4,13 @@ use native.Mathlib.Omega.{arith}
 use mathlib.Core.Path.{_≡_, ap, ap₂, _∙_}
 use mathlib.Core.List.{List}
 use lib.ListN.{length, take}
-use lib.Seq.{length-take-le}
-use Rattle.meaning.specs.Octets.{splice}
 use Rattle.meaning.specs.Calls as calls
+use Rattle.meaning.proofs.Refused.{RoomAfter}
+use Rattle.octets.specs.Writing.{Wrote}
 use Rattle.endpoint.specs.Outcomes.{numberOf, lengthOf, Gives}
 use Rattle.endpoint.specs.declared.Outcome.{Outcome}
 use Rattle.endpoint.specs.declared.Outcome.the-variants.{Done, MemoryUnsound, MessageEmpty, MessageTooLong, TypeUnknown, LengthWrong, OperationMalformed, ReplyDoesNotFit, Idle, NothingPending, AlreadyWaiting, NotificationRoomTooSmall, NotPermitted, SendAgain, GivenUp}
+use Rattle.endpoint.proofs.OneOutcome.{found}
 use Rattle.text.specs.Lines.{line}
 use Rattle.text.specs.Answers.{lineOf, answerLine, Answers}
 use Rattle.text.proofs.Writes.{line-short}
@@ -32,24 +33,25 @@ number-short NotPermitted = omega arith
 number-short SendAgain = omega arith
 number-short GivenUp = omega arith
 
-pub answer-short : (r : Outcome) (room : List ℕ) → lengthOf r ≤ length room → length (answerLine r room) ≤ length room + length room + 5
-unfolding answerLine
-answer-short r room h = omega (arith, line-short (numberOf r) (take (lengthOf r) room), length-take-le (lengthOf r) room h)
-
 -- the line of an answer, as its number and its octets are written
 pub answer-is : (r : Outcome) (room : List ℕ) (k n : ℕ) → k ≡ numberOf r → n ≡ lengthOf r → line k (take n room) ≡ answerLine r room
 unfolding answerLine
 answer-is r room k n e f = rw (e, f)
 
--- what a call gives, and its answer's line behind it
-pub answered : (o : calls.Outcome) (out : List ℕ) (at : ℕ) {end : ℕ} {r : Outcome} {memory room out′ : List ℕ} → Gives o r memory room → take (lengthOf r) room ≡ o .written
-    → (end ≡ at + length (answerLine r room)) × (out′ ≡ splice out at (answerLine r room)) → Answers o out at end memory room out′
-unfolding lineOf answerLine
-answered o out at {r = r} {room = room} g w p =
-    let e : line (numberOf r) (take (lengthOf r) room) ≡ line (o .number) (o .written) = ap₂ line (g .number) w in
-    record {
-      after = p .0 ∙ ap (λ (l : List ℕ). at + length l) e;
-      lines = p .1 ∙ ap (splice out at) e;
-      memoryIs = g .memoryIs;
-      roomIs = g .roomIs;
-    }
+-- What a call gives, and its answer's line behind it: there is room for the line where there is for that of a full room, and the
+-- line is that of the call's outcome.
+module _ (o : calls.Outcome) (room₀ out : List ℕ) (at : ℕ) {r : Outcome} {memory room : List ℕ} (a : RoomAfter o room₀) (g : Gives o r memory room) where
+  long : length room ≡ length room₀
+  long = ap length (g .roomIs) ∙ a .long
+
+  pub answerable : at + (length room₀ + length room₀ + 5) ≤ length out → (lengthOf r ≤ length room) × (at + (length room + length room + 5) ≤ length out)
+  answerable h = (omega (arith, found o room₀ a g .0, long), omega (arith, h, long))
+
+  pub answered : {end : ℕ} {out′ : List ℕ} → Wrote out at (answerLine r room) end out′ → (end ≤ at + (length room₀ + length room₀ + 5)) × Answers o out at end memory room out′
+  unfolding lineOf answerLine
+  answered p =
+      let e : line (numberOf r) (take (lengthOf r) room) ≡ line (o .number) (o .written) = ap₂ line (g .number) (found o room₀ a g .1) in
+      let w = rw e at p in (
+        omega (arith, w .0, line-short (o .number) (o .written), a .inRoom),
+        record { wrote = w; memoryIs = g .memoryIs; roomIs = g .roomIs },
+      )

@@ -1,10 +1,10 @@
 -- The line that a call's outcome is answered with: as the definition of the call gives it, and as the call's answer and room tell it.
-use Prim.Native.Nat.{ℕ, _+_}
+use Prim.Native.Nat.{ℕ}
 use mathlib.Core.Path.{_≡_}
 use mathlib.Core.List.{List}
-use lib.ListN.{length, take}
-use Rattle.meaning.specs.Octets.{splice}
+use lib.ListN.{take}
 use Rattle.meaning.specs.Calls as calls
+use Rattle.octets.specs.Writing.{Wrote}
 use Rattle.endpoint.specs.Outcomes.{numberOf, lengthOf}
 use Rattle.endpoint.specs.declared.Outcome.{Outcome}
 use Rattle.text.specs.Lines.{line}
@@ -17,9 +17,13 @@ lineOf o = line (o .number) (o .written)
 unfoldable pub answerLine : Outcome → List ℕ → List ℕ
 answerLine r room = line (numberOf r) (take (lengthOf r) room)
 
+-- what a program lends to its calls, and keeps from one to the next
+pub record Port : Type 0 where
+  pub memory : List ℕ
+  pub room : List ℕ
+
 -- an outcome's line has been written at a place, and memory and room are left as it says
 pub record Answers (o : calls.Outcome) (out : List ℕ) (at end : ℕ) (memory room out′ : List ℕ) : Type 0 where
-  pub after : end ≡ at + length (lineOf o)
-  pub lines : out′ ≡ splice out at (lineOf o)
+  pub wrote : Wrote out at (lineOf o) end out′
   pub memoryIs : memory ≡ o .memory
   pub roomIs : room ≡ o .room

@@ -36,7 +36,3 @@ longDecimal n = cond (ltb n 100) (decimal n) (decimal (n / 100) ++ (digit (n / 1
 -- `lent`, a space, a number
 unfoldable pub lentLine : ℕ → List ℕ
 lentLine n = (108 ∷ 101 ∷ 110 ∷ 116 ∷ 32 ∷ []) ++ (longDecimal n ++ (10 ∷ []))
-
--- `cut`
-unfoldable pub cutLine : List ℕ
-cutLine = 99 ∷ 117 ∷ 116 ∷ 10 ∷ []

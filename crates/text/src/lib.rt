@@ -3,11 +3,10 @@
 ghost use Prim.Native.Nat.{_+_, _≤_, _<_};
 ghost use mathlib.Core.Path.{_≡_};
 ghost use lib.ListN.{length};
-ghost use Rattle.meaning.specs.Calls.{message};
 ghost use Rattle.octets.specs.Writing.{Wrote};
 ghost use Rattle.endpoint.specs.Outcomes.{lengthOf};
-ghost use Rattle.text.specs.Lines.{digit as Lines·digit, hex, decimal, shownOctets, octetsLine, line, longDecimal, lentLine, cutLine};
-ghost use Rattle.text.specs.Answers.{answerLine, Answers};
+ghost use Rattle.text.specs.Lines.{digit as Lines·digit, hex, decimal, shownOctets, octetsLine, line, longDecimal, lentLine};
+ghost use Rattle.text.specs.Answers.{answerLine};
 
 // The character of a digit: 39 more for a letter, taken from all bits of an octet or from none. With a quotient by 10 or a
 // test, LLVM puts branches into the loop over it.
@@ -90,22 +89,6 @@ pub fn write_outcome(out: &mut [u8], at: usize, outcome: endpoint::Outcome, room
     write_line(out, at, endpoint::number(outcome), &room[..n])
 }
 
-// A message taken, and the line of its outcome written at a place; the place after it.
-pub fn answer_message(
-    memory: &mut [u8],
-    sent: &[u8],
-    room: &mut [u8],
-    out: &mut [u8],
-    at: usize,
-) -> usize
-    requires { ⌜ at + (length (now room) + length (now room) + 5) ≤ length (now out) ⌝ }
-    ensures { λ r. ⌜ r ≤ at + (length (now (room .entry)) + length (now (room .entry)) + 5) ⌝ }
-    ensures { λ r. ⌜ Answers (message (now (memory .entry)) (now (sent .entry)) (now (room .entry))) (now (out .entry)) at r (now (memory .exit)) (now (room .exit)) (now (out .exit)) ⌝ }
-{
-    let outcome = endpoint::message(memory, sent, room);
-    write_outcome(out, at, outcome, room)
-}
-
 // A number under 10,000.
 fn write_long_decimal(out: &mut [u8], at: usize, number: usize) -> usize
     requires { ⌜ (number < 10000) × (at + 4 ≤ length (now out)) ⌝ }
@@ -129,13 +112,4 @@ pub fn write_lent(out: &mut [u8], at: usize, lent: usize) -> usize
     let end = write_long_decimal(out, number, lent);
     out[end] = b'\n';
     end + 1
-}
-
-// The line of a piece of input that is not whole, or not one that can be taken.
-pub fn write_cut(out: &mut [u8], at: usize) -> usize
-    requires { ⌜ at + 4 ≤ length (now out) ⌝ }
-    ensures { λ r. ⌜ r ≡ at + 4 ⌝ }
-    ensures { λ r. ⌜ Wrote (now (out .entry)) at cutLine r (now (out .exit)) ⌝ }
-{
-    octets::append(out, at, b"cut\n")
 }

@@ -1,2 +1,0 @@
--- Laws of pieces and of octets moved to the front.
-pub mod Held

@@ -1,2 +1,0 @@
--- What the contracts of `input` cite beside `meaning`.
-pub mod Pieces

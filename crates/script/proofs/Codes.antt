@@ -1,0 +1,158 @@
+-- Codes: which are known, how long their bodies are, what each does, and which call it is.
+use Prim.Native.Nat.{ℕ, zero, suc, _+_, _≤_, _<_}
+use native.Mathlib.Omega.{arith}
+use native.Mathlib.Decide.{decLe}
+use mathlib.Core.Path.{_≡_, refl, sym, _∙_}
+use mathlib.Core.Logic.{_⊎_, inl, inr}
+use mathlib.Core.Bool.{Bool, true, false, false≢true}
+use mathlib.Core.List.{List, [], _∷_}
+use lib.ListN.{length, drop, List·getD-eq-default}
+use lib.Dec.{eqb, leb}
+use borrow.Author.Tests.{leb-true, eqb-true}
+use Rattle.meaning.specs.Octets.{at16}
+use Rattle.meaning.specs.Delay.{delay}
+use Rattle.meaning.specs.Calls.{Outcome, makeFresh, message, localValue, build, expiry}
+use Rattle.meaning.proofs.Refused.{RoomAfter, message-room, build-room, localValue-room, expiry-room, makeFresh-room}
+use Rattle.endpoint.specs.Outcomes.{Gives}
+use Rattle.endpoint.specs.declared.Outcome as answers
+use Rattle.text.specs.Lines.{octetsLine, lentLine}
+use Rattle.script.specs.Records.{bodyRight, anew, nanoseconds, printed, roomFor, alone, called, answered, effect}
+
+-- ---- bodies
+
+pub unknown : (code n : ℕ) → 9 ≤ code → bodyRight code n ≡ false
+unfolding bodyRight
+unknown code n h =
+    let tests : List Bool = eqb n 0 ∷ leb 2 n ∷ leb 2 n ∷ eqb n 2 ∷ eqb n 0 ∷ leb n 2200 ∷ eqb n 0 ∷ eqb n 0 ∷ eqb n 8 ∷ [] in
+    List·getD-eq-default tests false h
+
+beyond : (k code : ℕ) → k ≤ code → (code ≡ k → ⊥) → k + 1 ≤ code
+beyond k code h f = omega arith
+
+-- a code that is none of the nine
+pub other : (code n : ℕ) → ((((((((Unit {0} × (code ≡ 0 → ⊥)) × (code ≡ 1 → ⊥)) × (code ≡ 2 → ⊥)) × (code ≡ 3 → ⊥)) × (code ≡ 4 → ⊥)) × (code ≡ 5 → ⊥)) × (code ≡ 6 → ⊥)) × (code ≡ 7 → ⊥)) × (code ≡ 8 → ⊥) → bodyRight code n ≡ false
+other code n r =
+    let h0 : 0 ≤ code = omega arith in
+    let h1 = beyond 0 code h0 (r .0 .0 .0 .0 .0 .0 .0 .0 .1) in
+    let h2 = beyond 1 code h1 (r .0 .0 .0 .0 .0 .0 .0 .1) in
+    let h3 = beyond 2 code h2 (r .0 .0 .0 .0 .0 .0 .1) in
+    let h4 = beyond 3 code h3 (r .0 .0 .0 .0 .0 .1) in
+    let h5 = beyond 4 code h4 (r .0 .0 .0 .0 .1) in
+    let h6 = beyond 5 code h5 (r .0 .0 .0 .1) in
+    let h7 = beyond 6 code h6 (r .0 .0 .1) in
+    let h8 = beyond 7 code h7 (r .0 .1) in
+    let h9 = beyond 8 code h8 (r .1) in
+    unknown code n h9
+
+pub known : (code n : ℕ) → bodyRight code n ≡ true → code < 9
+known code n e = at (decLe 9 code)
+  where
+    at : Dec (9 ≤ code) → code < 9
+    at (yes h) = absurd (false≢true (sym (unknown code n h) ∙ e))
+    at (no h) = omega arith
+
+module _ {code n : ℕ} (r : bodyRight code n ≡ true) where
+  pub message-body : code ≡ 1 → 2 ≤ n
+  unfolding bodyRight
+  message-body e = leb-true 2 n (rw e at r)
+
+  pub local-body : code ≡ 2 → 2 ≤ n
+  unfolding bodyRight
+  local-body e = leb-true 2 n (rw e at r)
+
+  pub build-body : code ≡ 3 → n ≡ 2
+  unfolding bodyRight
+  build-body e = eqb-true n 2 (rw e at r)
+
+  pub lend-body : code ≡ 5 → n ≤ 2200
+  unfolding bodyRight
+  lend-body e = leb-true n 2200 (rw e at r)
+
+  pub delay-body : code ≡ 8 → n ≡ 8
+  unfolding bodyRight
+  delay-body e = eqb-true n 8 (rw e at r)
+
+-- ---- the table's rows
+
+module _ {code : ℕ} (body m room : List ℕ) where
+  pub lend-row : code ≡ 5 → effect code body m room ≡ printed (lentLine (length body)) body room
+  unfolding effect
+  lend-row e = rw e
+
+  pub memory-row : code ≡ 6 → effect code body m room ≡ printed (octetsLine m) m room
+  unfolding effect
+  memory-row e = rw e
+
+  pub room-row : code ≡ 7 → effect code body m room ≡ printed (octetsLine room) m room
+  unfolding effect
+  room-row e = rw e
+
+  pub delay-row : code ≡ 8 → effect code body m room ≡ printed (octetsLine (delay (nanoseconds body))) m room
+  unfolding effect
+  delay-row e = rw e
+
+-- codes under 5 are calls
+pub call-row : (code : ℕ) (body m room : List ℕ) → code < 5 → effect code body m room ≡ answered (called code body m (roomFor code body room))
+unfolding effect
+call-row zero body m room h = refl
+call-row (suc zero) body m room h = refl
+call-row (suc (suc zero)) body m room h = refl
+call-row (suc (suc (suc zero))) body m room h = refl
+call-row (suc (suc (suc (suc zero)))) body m room h = refl
+call-row (suc (suc (suc (suc (suc n))))) body m room h = absurd (omega arith)
+
+-- ---- the calls
+
+pub room-made : (code : ℕ) (body room : List ℕ) → (code ≡ 1) ⊎ (code ≡ 3) → roomFor code body room ≡ anew (at16 body 0)
+unfolding roomFor
+room-made code body room (inl e) = rw e
+room-made code body room (inr e) = rw e
+
+pub room-last : (code : ℕ) (body room : List ℕ) → (code ≡ 1 → ⊥) → (code ≡ 3 → ⊥) → roomFor code body room ≡ room
+unfolding roomFor
+room-last zero body room f g = refl
+room-last (suc zero) body room f g = absurd (f refl)
+room-last (suc (suc zero)) body room f g = refl
+room-last (suc (suc (suc zero))) body room f g = absurd (g refl)
+room-last (suc (suc (suc (suc n)))) body room f g = refl
+
+module _ {code : ℕ} (body m room : List ℕ) where
+  pub fresh-called : code ≡ 0 → called code body m room ≡ alone (makeFresh m) room
+  unfolding called
+  fresh-called e = rw e
+
+  pub message-called : code ≡ 1 → called code body m room ≡ message m (drop 2 body) room
+  unfolding called
+  message-called e = rw e
+
+  pub local-called : code ≡ 2 → called code body m room ≡ alone (localValue m (at16 body 0) (drop 2 body)) room
+  unfolding called
+  local-called e = rw e
+
+  pub build-called : code ≡ 3 → called code body m room ≡ build m room
+  unfolding called
+  build-called e = rw e
+
+  pub expiry-called : code ≡ 4 → called code body m room ≡ alone (expiry m) room
+  unfolding called
+  expiry-called e = rw e
+
+-- a call that is lent no room writes nothing, and leaves any room as it is
+
+alone-room : (o : Outcome) (room : List ℕ) → RoomAfter o [] → RoomAfter (alone o room) room
+alone-room o room a = at (o .written) (a .inRoom)
+  where
+    at : (w : List ℕ) → length w ≤ 0 → RoomAfter (record { number = o .number; written = w; memory = o .memory; room = room }) room
+    at [] h = record { inRoom = omega arith; long = refl; after = refl }
+    at (x ∷ w) h = absurd (omega arith)
+
+pub called-room : (code : ℕ) (body m room : List ℕ) → RoomAfter (called code body m room) room
+unfolding called
+called-room zero body m room = alone-room (makeFresh m) room (makeFresh-room m)
+called-room (suc zero) body m room = message-room m (drop 2 body) room
+called-room (suc (suc zero)) body m room = alone-room (localValue m (at16 body 0) (drop 2 body)) room (localValue-room m (at16 body 0) (drop 2 body))
+called-room (suc (suc (suc zero))) body m room = build-room m room
+called-room (suc (suc (suc (suc n)))) body m room = alone-room (expiry m) room (expiry-room m)
+
+pub alone-gives : (o : Outcome) (room : List ℕ) {r : answers.Outcome} {m′ : List ℕ} → Gives o r m′ [] → Gives (alone o room) r m′ room
+alone-gives o room g = record { number = g .number; written = g .written; memoryIs = g .memoryIs; roomIs = refl }

@@ -1,0 +1,94 @@
+-- The records of a script: the bodies that each code may have, the line that it prints, and the memory and the room that it leaves.
+use Prim.Native.Nat.{ℕ, _+_, _*_}
+use mathlib.Core.Bool.{Bool, false, cond}
+use mathlib.Core.List.{List, [], _∷_}
+use lib.ListN.{length, getD, drop, replicate}
+use lib.Dec.{eqb, leb, ltb}
+use Rattle.meaning.specs.Octets.{at16, at32}
+use Rattle.meaning.specs.Delay.{delay}
+use Rattle.meaning.specs.Calls.{Outcome, makeFresh, message, localValue, build, expiry}
+use Rattle.text.specs.Lines.{octetsLine, lentLine}
+use Rattle.text.specs.Answers.{lineOf}
+
+-- the length of a body, by the record's code; no other code is known
+unfoldable pub bodyRight : ℕ → ℕ → Bool
+bodyRight code n =
+    getD
+    (eqb n 0  -- 00 make the lent memory fresh
+    ∷ leb 2 n  -- 01 message: room length (2), message
+    ∷ leb 2 n  -- 02 local value: name (2), value
+    ∷ eqb n 2  -- 03 build a notification: room length (2)
+    ∷ eqb n 0  -- 04 timer expiry
+    ∷ leb n 2200  -- 05 lend other memory: 0 to 2,200 octets
+    ∷ eqb n 0  -- 06 show memory
+    ∷ eqb n 0  -- 07 show the room of the last message or notification
+    ∷ eqb n 8  -- 08 delay conversion: nanoseconds (8)
+    ∷ []) code false
+
+-- a room made anew: at most 8,192 octets, each A5
+unfoldable pub roomLength : ℕ → ℕ
+roomLength asked = cond (ltb asked 8192) asked 8192
+
+unfoldable pub anew : ℕ → List ℕ
+anew asked = replicate (roomLength asked) 0xA5
+
+-- the number that eight octets spell, the high octet first
+unfoldable pub nanoseconds : List ℕ → ℕ
+nanoseconds s = at32 s 0 * 4294967296 + at32 s 4
+
+-- what a record prints, and the memory and the room that it leaves
+pub record Effect : Type 0 where
+  pub line : List ℕ
+  pub memory : List ℕ
+  pub room : List ℕ
+
+abbrev pub printed : List ℕ → List ℕ → List ℕ → Effect
+printed line m room = record { line = line; memory = m; room = room }
+
+-- ---- 00 to 04: the calls
+
+-- the room of a call: made anew where its record asks for one, else that of the last
+unfoldable pub roomFor : ℕ → List ℕ → List ℕ → List ℕ
+roomFor code body room =
+    let made = anew (at16 body 0) in
+    getD (room ∷ made ∷ room ∷ made ∷ []) code room
+
+-- a call that is lent no room leaves it as it is
+abbrev pub alone : Outcome → List ℕ → Outcome
+alone o room = record { number = o .number; written = o .written; memory = o .memory; room = room }
+
+-- the calls by code, over memory and such a room
+unfoldable pub called : ℕ → List ℕ → List ℕ → List ℕ → Outcome
+called code body m room =
+    let sent = drop 2 body in
+    getD
+    (alone (makeFresh m) room
+    ∷ message m sent room
+    ∷ alone (localValue m (at16 body 0) sent) room
+    ∷ build m room
+    ∷ [])
+    code
+    (alone (expiry m) room)
+
+-- an outcome's line, and what it leaves
+abbrev pub answered : Outcome → Effect
+answered o = printed (lineOf o) (o .memory) (o .room)
+
+-- ---- every code, as above; one that is not known does nothing
+
+unfoldable pub effect : ℕ → List ℕ → List ℕ → List ℕ → Effect
+effect code body m room =
+    let call = answered (called code body m (roomFor code body room)) in
+    getD
+    (call
+    ∷ call
+    ∷ call
+    ∷ call
+    ∷ call
+    ∷ printed (lentLine (length body)) body room
+    ∷ printed (octetsLine m) m room
+    ∷ printed (octetsLine room) m room
+    ∷ printed (octetsLine (delay (nanoseconds body))) m room
+    ∷ [])
+    code
+    (printed [] m room)

@@ -1,0 +1,161 @@
+// The records of a script: each is a call of the endpoint over what is lent, or shows or lends something, and prints a line.
+ghost use Prim.Native.Nat.{_+_, _≤_, _<_};
+ghost use mathlib.Core.Path.{_≡_};
+ghost use mathlib.Core.Bool.{true};
+ghost use lib.ListN.{length, take};
+ghost use Rattle.meaning.specs.Delay.{delay};
+ghost use Rattle.octets.specs.Writing.{Wrote};
+ghost use Rattle.endpoint.specs.Outcomes.{Gives};
+ghost use Rattle.text.specs.Lines.{octetsLine};
+ghost use Rattle.script.specs.Records.{bodyRight, roomLength, anew, roomFor, called, nanoseconds};
+ghost use Rattle.script.specs.Takes.{Ready, Takes};
+
+// Most octets that can be lent as memory.
+pub const MOST_LENT: usize = 2200;
+// Most octets of a room; a larger length counts as this.
+pub const MOST_ROOM: usize = 8192;
+// What a room made anew holds.
+const ROOM_FILL: u8 = 0xA5;
+
+// How many octets are lent as memory, and how many the room of the last message or notification has.
+pub struct Lent {
+    pub memory: usize,
+    pub room: usize,
+}
+
+// What became of a record: the place after its line, and what is lent from then on; or it is faulty.
+pub enum Took {
+    Line(usize, Lent),
+    Faulty,
+}
+
+// Whether a code is known and its body has a right length.
+fn body_right(code: u8, n: usize) -> bool
+    ensures { λ r. ⌜ r ≡ bodyRight code n ⌝ }
+{
+    match code {
+        0 => n == 0,
+        1 => 2 <= n,
+        2 => 2 <= n,
+        3 => n == 2,
+        4 => n == 0,
+        5 => n <= MOST_LENT,
+        6 => n == 0,
+        7 => n == 0,
+        8 => n == 8,
+        _ => false,
+    }
+}
+
+// The length of a room that is made.
+fn room_length(asked: usize) -> usize
+    ensures { λ r. ⌜ (r ≡ roomLength asked) × (r ≤ 8192) ⌝ }
+{
+    if asked < MOST_ROOM {
+        return asked;
+    }
+    MOST_ROOM
+}
+
+// A room made anew, of the length that is asked for; its length.
+fn make_room(room: &mut [u8], asked: usize) -> usize
+    requires { ⌜ length (now room) ≡ 8192 ⌝ }
+    ensures { λ r. ⌜ (r ≤ 8192) × (take r (now (room .exit)) ≡ anew asked) ⌝ }
+{
+    let n = room_length(asked);
+    let mut i = 0;
+    while i < n {
+        room[i] = ROOM_FILL;
+        i += 1;
+    }
+    n
+}
+
+// The room that a call is lent: made anew where its record asks for one, else that of the last; its length.
+fn room_for(room: &mut [u8], last: usize, code: u8, body: &[u8]) -> usize
+    requires { ⌜ (length (now room) ≡ 8192) × (last ≤ 8192) × (bodyRight code (length (now body)) ≡ true) × (code < 5) ⌝ }
+    ensures { λ r. ⌜ (r ≤ 8192) × (take r (now (room .exit)) ≡ roomFor code (now (body .entry)) (take last (now (room .entry)))) ⌝ }
+{
+    match code {
+        1 => make_room(room, octets::get16(body, 0)),
+        3 => make_room(room, octets::get16(body, 0)),
+        _ => last,
+    }
+}
+
+// The calls over memory, by their records' codes.
+fn call(memory: &mut [u8], room: &mut [u8], code: u8, body: &[u8]) -> endpoint::Outcome
+    requires { ⌜ (bodyRight code (length (now body)) ≡ true) × (code < 5) ⌝ }
+    ensures { λ r. ⌜ Gives (called code (now (body .entry)) (now (memory .entry)) (now (room .entry))) r (now (memory .exit)) (now (room .exit)) ⌝ }
+{
+    match code {
+        0 => endpoint::make_fresh(memory),
+        1 => endpoint::message(memory, &body[2..], room),
+        2 => endpoint::local_value(memory, octets::get16(body, 0), &body[2..]),
+        3 => endpoint::build(memory, room),
+        _ => endpoint::expiry(memory),
+    }
+}
+
+// The line of a delay, from its nanoseconds.
+fn show_delay(body: &[u8], out: &mut [u8], at: usize) -> usize
+    requires { ⌜ (length (now body) ≡ 8) × (at + 18 ≤ length (now out)) ⌝ }
+    ensures { λ r. ⌜ Wrote (now (out .entry)) at (octetsLine (delay (nanoseconds (now (body .entry))))) r (now (out .exit)) ⌝ }
+{
+    let time = octets::get32(body, 0) * 4294967296 + octets::get32(body, 4);
+    let stored = endpoint::delay_octets(delay::Nanoseconds(time));
+    text::write_octets(out, at, &stored)
+}
+
+// The records that are no calls over memory.
+fn take_other(
+    memory: &mut [u8],
+    room: &[u8],
+    lent: Lent,
+    code: u8,
+    body: &[u8],
+    out: &mut [u8],
+    at: usize,
+) -> Took
+    requires { ⌜ Ready (now memory) (now room) lent (now out) at × (bodyRight code (length (now body)) ≡ true) × (5 ≤ code) ⌝ }
+    ensures { λ r. ⌜ Takes code (now (body .entry)) (now (memory .entry)) (now (room .entry)) lent (now (out .entry)) at r (now (memory .exit)) (now (room .entry)) (now (out .exit)) ⌝ }
+{
+    let m = lent.memory;
+    let n = lent.room;
+    match code {
+        5 => {
+            let k = octets::append(memory, 0, body);
+            let end = text::write_lent(out, at, k);
+            Took::Line(end, Lent { memory: k, room: n })
+        }
+        6 => Took::Line(text::write_octets(out, at, &memory[..m]), lent),
+        7 => Took::Line(text::write_octets(out, at, &room[..n]), lent),
+        _ => Took::Line(show_delay(body, out, at), lent),
+    }
+}
+
+// Takes one record: what is lent is lent to its call, and its line is written at a place.
+pub fn take_record(
+    memory: &mut [u8],
+    room: &mut [u8],
+    lent: Lent,
+    code: u8,
+    body: &[u8],
+    out: &mut [u8],
+    at: usize,
+) -> Took
+    requires { ⌜ Ready (now memory) (now room) lent (now out) at ⌝ }
+    ensures { λ r. ⌜ Takes code (now (body .entry)) (now (memory .entry)) (now (room .entry)) lent (now (out .entry)) at r (now (memory .exit)) (now (room .exit)) (now (out .exit)) ⌝ }
+{
+    if !body_right(code, body.len()) {
+        return Took::Faulty;
+    }
+    if 5 <= code {
+        return take_other(memory, room, lent, code, body, out, at);
+    }
+    let m = lent.memory;
+    let n = room_for(room, lent.room, code, body);
+    let outcome = call(&mut memory[..m], &mut room[..n], code, body);
+    let end = text::write_outcome(out, at, outcome, &room[..n]);
+    Took::Line(end, Lent { memory: m, room: n })
+}
