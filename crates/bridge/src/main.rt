@@ -15,10 +15,8 @@ const HEAD: usize = 2;
 const INPUT: usize = 131072;
 // Lines are written out when they fill this much.
 const DUE: usize = 65536;
-// Octets of the reply room.
-const ROOM: usize = 4096;
-// Octets that the line of a full room may take.
-const LINE: usize = 8197;
+// Octets that the line of the longest reply may take: two digits for each octet, the number before and the line's end.
+const LINE: usize = 2 * endpoint::REPLY_MOST + 5;
 
 // How far the frames that are held are answered: the place of the next frame, and the place after the lines.
 struct Batch {
@@ -97,10 +95,10 @@ fn run(memory: &mut [u8], block: &mut [u8], room: &mut [u8], out: &mut [u8])
 }
 
 fn main() {
-    let mut memory = [0u8; 2100];
+    let mut memory = [0u8; endpoint::MEMORY_LENGTH];
     endpoint::make_fresh(&mut memory);
     let mut block = [0u8; INPUT];
-    let mut room = [0u8; ROOM];
+    let mut room = [0u8; endpoint::REPLY_MOST];
     let mut out = [0u8; DUE + LINE];
     run(&mut memory, &mut block, &mut room, &mut out);
 }

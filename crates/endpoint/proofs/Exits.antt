@@ -16,7 +16,7 @@ use Rattle.meaning.specs.Memory.{waiting, expiries, setTimer, sound, fresh}
 use Rattle.meaning.specs.Operation.{Op, parse, isSome, orNone}
 use Rattle.meaning.specs.Step.{after}
 use Rattle.meaning.specs.Reply.{complete}
-use Rattle.meaning.specs.Calls.{localPermitted, localMemory, localChecks, localValue, reports, buildChecks, build, makeFresh, done, numberOnly, call, isCommand, isAcknowledgement, lengthField, operations, opsOf, records, carriedOut, acknowledged, effect, fits, messageChecks, message}
+use Rattle.meaning.specs.Calls.{localPermitted, localMemory, localChecks, localValue, reports, buildChecks, build, makeFresh, done, numberOnly, call, isCommand, isAcknowledgement, lengthField, operations, opsOf, records, carriedOut, acknowledged, handled, fits, messageChecks, message}
 use Rattle.meaning.specs.Calls as calls
 use Rattle.meaning.proofs.Numbers.{Taken, Measured, length-right}
 use Rattle.octets.proofs.Splices.{part-is}
@@ -79,11 +79,11 @@ not-whole (some os) e = absurd (false≢true (sym e))
 
 module _ (m s room : List ℕ) where
   pub message-acknowledgement : Taken m s → octet s 0 ≡ 4 → message m s room ≡ acknowledgement m room
-  unfolding message messageChecks acknowledgement call firstFailed isCommand isAcknowledgement implies effect
+  unfolding message messageChecks acknowledgement call firstFailed isCommand isAcknowledgement implies handled
   message-acknowledgement t e = simp (t .isSound, le-leb 1 (length s) (t .nonzero), le-leb (length s) 2048 (t .short), e)
 
   pub message-command : Measured m s → isSome (parse (operations s)) ≡ true → message m s room ≡ command m (operations s) room
-  unfolding message messageChecks command reply call firstFailed isCommand isAcknowledgement implies effect opsOf
+  unfolding message messageChecks command reply call firstFailed isCommand isAcknowledgement implies handled opsOf
   message-command l w =
       simp (l .taken .isSound, le-leb 1 (length s) (l .taken .nonzero), le-leb (length s) 2048 (l .taken .short), l .type, length-right m s l, w)
 

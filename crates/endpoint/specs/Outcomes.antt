@@ -6,7 +6,7 @@ use lib.ListN.{length}
 use Rattle.meaning.specs.Checks.{passed, check}
 use Rattle.meaning.specs.Memory.{waiting}
 use Rattle.meaning.specs.Operation.{parse, orNone}
-use Rattle.meaning.specs.Calls.{Effect, done, call, carriedOut, acknowledged, fits}
+use Rattle.meaning.specs.Calls.{Handled, done, call, carriedOut, acknowledged, fits}
 use Rattle.meaning.specs.Calls as calls
 use Rattle.endpoint.specs.declared.Outcome.{Outcome}
 use Rattle.endpoint.specs.declared.Outcome.the-variants.{Done, MemoryUnsound, MessageEmpty, MessageTooLong, TypeUnknown, LengthWrong, OperationMalformed, ReplyDoesNotFit, Idle, NothingPending, AlreadyWaiting, NotificationRoomTooSmall, NotPermitted, SendAgain, GivenUp}
@@ -54,7 +54,7 @@ pub record Gives (o : calls.Outcome) (r : Outcome) (memory room : List ℕ) : Ty
 
 -- what is left to decide once a message's checks before it have passed: its reply fits
 
-unfoldable pub reply : Effect → List ℕ → List ℕ → calls.Outcome
+unfoldable pub reply : Handled → List ℕ → List ℕ → calls.Outcome
 reply d m room = call (check 7 (fits (length room) d) passed) (done (d .reply) (d .memory) room) m room
 
 -- a whole list of operations

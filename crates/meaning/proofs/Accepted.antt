@@ -14,7 +14,7 @@ use Rattle.meaning.specs.Memory.{waiting, sound}
 use Rattle.meaning.specs.Operation.{Op, parse, isSome, orNone}
 use Rattle.meaning.specs.Step.{after}
 use Rattle.meaning.specs.Reply.{complete}
-use Rattle.meaning.specs.Calls.{done, isCommand, isAcknowledgement, lengthField, operations, opsOf, lengthRight, records, carriedOut, effect, fits, messageChecks, message}
+use Rattle.meaning.specs.Calls.{done, isCommand, isAcknowledgement, lengthField, operations, opsOf, lengthRight, records, carriedOut, handled, fits, messageChecks, message}
 use Rattle.meaning.proofs.Tests.{every-at, implies-of, implied, first-passed, all-passing}
 use Rattle.meaning.proofs.Checked.{call-done, call-passed}
 use Rattle.meaning.proofs.Records.{Fits, fits-opened, fits-closed}
@@ -43,9 +43,9 @@ pub ops-parsed : (s : List ℕ) (os : List Op) → parse (operations s) ≡ some
 unfolding opsOf
 ops-parsed s os e = rw e
 
-pub effect-command : (m s : List ℕ) → isCommand s ≡ true → effect m s ≡ carriedOut m (opsOf s)
-unfolding effect
-effect-command m s e = rw e
+pub handled-command : (m s : List ℕ) → isCommand s ≡ true → handled m s ≡ carriedOut m (opsOf s)
+unfolding handled
+handled-command m s e = rw e
 
 -- L is there, is not 0 and not past the end
 pub length-right : (s : List ℕ) → lengthRight s ≡ true → (1 ≤ lengthField s) × (3 + lengthField s ≤ length s)
@@ -65,7 +65,7 @@ pub record Passed (m s : List ℕ) (n : ℕ) : Type 0 where
   pub lengthIs : implies (isCommand s) (lengthRight s) ≡ true
   pub wellFormed : implies (isCommand s) (isSome (parse (operations s))) ≡ true
   pub awaited : implies (isAcknowledgement s) (waiting m) ≡ true
-  pub fit : fits n (effect m s) ≡ true
+  pub fit : fits n (handled m s) ≡ true
 
 passed-message : (m s : List ℕ) (n : ℕ) → Passed m s n → firstFailed (messageChecks m s n) ≡ 0
 unfolding messageChecks
@@ -105,7 +105,7 @@ accepted-passes m s n os a =
       lengthIs = implies-of _ _ (λ _. right-length s (a .nonzero) (a .inside));
       wellFormed = implies-of _ _ (λ _. ap isSome (a .parsed));
       awaited = implies-of _ _ (λ e. absurd (false≢true (sym (one-type s (a .command)) ∙ e)));
-      fit = rw (effect-command m s (a .command), ops-parsed s os (a .parsed)) (fits-closed n m os (a .fit));
+      fit = rw (handled-command m s (a .command), ops-parsed s os (a .parsed)) (fits-closed n m os (a .fit));
     }
 
 pub passes-accepted : (m s : List ℕ) (n : ℕ) → isCommand s ≡ true → firstFailed (messageChecks m s n) ≡ 0 → Accepted m s n (opsOf s)
@@ -120,7 +120,7 @@ passes-accepted m s n c e =
       nonzero = l .0;
       inside = l .1;
       parsed = some-of (parse (operations s)) (implied (isCommand s) _ (p .wellFormed) c);
-      fit = fits-opened n m (opsOf s) (ap (fits n) (sym (effect-command m s c)) ∙ p .fit);
+      fit = fits-opened n m (opsOf s) (ap (fits n) (sym (handled-command m s c)) ∙ p .fit);
     }
 
 -- what an accepted command's call gives
@@ -129,7 +129,7 @@ pub accepted-call : (m s room : List ℕ) (os : List Op) → Accepted m s (lengt
 unfolding message carriedOut
 accepted-call m s room os a =
     call-done (messageChecks m s (length room)) _ m room (accepted-passes m s (length room) os a)
-    ∙ rw (effect-command m s (a .command), ops-parsed s os (a .parsed))
+    ∙ rw (handled-command m s (a .command), ops-parsed s os (a .parsed))
 
 pub carried-accepted : (m s room : List ℕ) → isCommand s ≡ true → message m s room .number ≡ 0 → Accepted m s (length room) (opsOf s)
 unfolding message

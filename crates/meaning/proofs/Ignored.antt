@@ -7,7 +7,7 @@ use mathlib.Core.List.{List, [], _∷_, _++_}
 use lib.ListN.{length, length-append, List·getD-append}
 use borrow.Author.Tests.{le-leb}
 use Rattle.meaning.specs.Octets.{octet, at16, implies}
-use Rattle.meaning.specs.Calls.{isCommand, isAcknowledgement, lengthField, operations, opsOf, lengthRight, effect, messageChecks, message}
+use Rattle.meaning.specs.Calls.{isCommand, isAcknowledgement, lengthField, operations, opsOf, lengthRight, handled, messageChecks, message}
 use Rattle.meaning.proofs.Lists.{part-append}
 use Rattle.meaning.proofs.Accepted.{right-length, length-right}
 
@@ -23,7 +23,7 @@ unfolding operations
 operations-longer s t i = rw (field-longer s t i) (part-append s t 3 (lengthField s) i)
 
 pub trailing-ignored : (m s t room : List ℕ) → lengthRight s ≡ true → length (s ++ t) ≤ 2048 → message m (s ++ t) room ≡ message m s room
-unfolding message messageChecks effect opsOf isCommand isAcknowledgement
+unfolding message messageChecks handled opsOf isCommand isAcknowledgement
 trailing-ignored m s t room r h =
     let o = length-right s r in
     let n : length (s ++ t) ≡ length s + length t = length-append s t in
@@ -41,5 +41,5 @@ trailing-ignored m s t room r h =
     )
 
 pub acknowledgement-alone : (m t room : List ℕ) → length (4 ∷ t) ≤ 2048 → message m (4 ∷ t) room ≡ message m (4 ∷ []) room
-unfolding message messageChecks effect isCommand isAcknowledgement implies
+unfolding message messageChecks handled isCommand isAcknowledgement implies
 acknowledgement-alone m t room h = rw (le-leb (suc (length t)) 2048 h, le-leb 1 (suc (length t)) (omega arith))

@@ -16,7 +16,7 @@ use Rattle.meaning.specs.Block.{sums, permits, keeps, formAndFit, listOf
 use Rattle.meaning.specs.Memory.{cell, store, setMarks, setTimer, subscribed, pending, isPending, isSubscribed, expiries, fourPresent, timerSound, sound, fresh}
 use Rattle.meaning.specs.Operation.{Op, capabilities, read, set, subscribe, unsubscribe}
 use Rattle.meaning.specs.Step.{block, commits, permitted, setChecks, stored, setMemory, subscribeMemory, unsubscribeMemory, step, after}
-use Rattle.meaning.specs.Calls.{Outcome, numberOnly, call, effect, carriedOut, acknowledged, isCommand, messageChecks, message, opsOf, localPermitted, differs, localMemory, localChecks, localValue, cleared, buildChecks, build, expired, expiryChecks, expiry, makeFresh}
+use Rattle.meaning.specs.Calls.{Outcome, numberOnly, call, handled, carriedOut, acknowledged, isCommand, messageChecks, message, opsOf, localPermitted, differs, localMemory, localChecks, localValue, cleared, buildChecks, build, expired, expiryChecks, expiry, makeFresh}
 use Rattle.meaning.proofs.All.{all}
 use Rattle.meaning.proofs.Lists.{length-part}
 use Rattle.meaning.proofs.Tests.{same-true, and-left, every-at, first-passed}
@@ -158,9 +158,9 @@ after-sound m (o ∷ os) s = after-sound (step m o) os (step-sound m o s)
 -- ---- a message
 
 -- a command leaves the memory after its operations, an acknowledgement the timer idle and all else as it was
-pub effect-either : (P : List ℕ → Type 0) (m s : List ℕ) → P (after m (opsOf s)) → P (setTimer m 0 0) → P (effect m s .memory)
-unfolding effect carriedOut acknowledged
-effect-either P m s f g = go (isCommand s)
+pub handled-either : (P : List ℕ → Type 0) (m s : List ℕ) → P (after m (opsOf s)) → P (setTimer m 0 0) → P (handled m s .memory)
+unfolding handled carriedOut acknowledged
+handled-either P m s f g = go (isCommand s)
   where
     go : (b : Bool) → P (cond b (carriedOut m (opsOf s)) (acknowledged m) .memory)
     go true = f
@@ -181,7 +181,7 @@ pub message-sound : (m s room : List ℕ) → sound m ≡ true → sound (messag
 unfolding message
 message-sound m s room h =
     call-memory IsSound (messageChecks m s (length room)) _ m room h
-    (λ e. effect-either IsSound m s (after-sound m (opsOf s) h) (setTimer-sound m 0 0 (opened m h) timer-idle))
+    (λ e. handled-either IsSound m s (after-sound m (opsOf s) h) (setTimer-sound m 0 0 (opened m h) timer-idle))
 
 -- ---- a local value
 

@@ -15,7 +15,7 @@ use Rattle.meaning.specs.Checks.{Checks, passed, check, firstFailed}
 use Rattle.meaning.specs.Table.{entryCount, memoryLength}
 use Rattle.meaning.specs.Memory.{pending, waiting, sound}
 use Rattle.meaning.specs.Operation.{Op, parse, isSome}
-use Rattle.meaning.specs.Calls.{numberOnly, isCommand, isAcknowledgement, lengthField, operations, lengthRight, records, carriedOut, acknowledged, effect, fits, messageChecks, message, localPermitted, localChecks, localValue, reports, buildChecks, build, expiryChecks, expiry, makeFresh}
+use Rattle.meaning.specs.Calls.{numberOnly, isCommand, isAcknowledgement, lengthField, operations, lengthRight, records, carriedOut, acknowledged, handled, fits, messageChecks, message, localPermitted, localChecks, localValue, reports, buildChecks, build, expiryChecks, expiry, makeFresh}
 use Rattle.meaning.proofs.Tests.{every-at, first-fails, first-after}
 use Rattle.meaning.proofs.Checked.{call-refused}
 use Rattle.meaning.proofs.Records.{Fits, fits-opened}
@@ -94,7 +94,7 @@ module _ (m s room : List ℕ) where
       (check 5 (implies (isCommand s) (lengthRight s))
       (check 6 (implies (isCommand s) (isSome (parse (operations s))))
       (check 8 (implies (isAcknowledgement s) (waiting m))
-      (check 7 (fits (length room) (effect m s)) passed))))
+      (check 7 (fits (length room) (handled m s)) passed))))
 
   rest-is : (n : ℕ) → Taken m s → firstFailed rest ≡ suc n → message m s room ≡ numberOnly (suc n) m room
   unfolding messageChecks firstFailed
@@ -113,7 +113,7 @@ module _ (m s room : List ℕ) where
   message-6 l e = rest-is 5 (l .taken) (simp (eq-eqb (octet s 0) 1 (l .type), length-right m s l, e))
 
   pub message-7 : (os : List Op) → Measured m s → parse (operations s) ≡ some os → (Fits (length room) (records m os) → ⊥) → message m s room ≡ numberOnly 7 m room
-  unfolding firstFailed isCommand isAcknowledgement implies effect
+  unfolding firstFailed isCommand isAcknowledgement implies handled
   message-7 os l e no-fit =
       rest-is 6 (l .taken)
       (simp (
@@ -130,7 +130,7 @@ module _ (m s room : List ℕ) where
 
   -- an acknowledgement whose reply has no room
   pub message-7-acknowledged : Taken m s → octet s 0 ≡ 4 → waiting m ≡ true → length room ≡ 0 → message m s room ≡ numberOnly 7 m room
-  unfolding firstFailed isCommand isAcknowledgement implies effect acknowledged fits every
+  unfolding firstFailed isCommand isAcknowledgement implies handled acknowledged fits every
   message-7-acknowledged t a w h = rest-is 6 t (simp (a, w, h))
 
 -- ---- building (RULES 15.17)

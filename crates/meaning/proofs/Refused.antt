@@ -14,7 +14,7 @@ use Rattle.meaning.specs.Octets.{octet}
 use Rattle.meaning.specs.Checks.{Checks, passed, check, firstFailed}
 use Rattle.meaning.specs.Table.{entryCount, timerAt, memoryLength}
 use Rattle.meaning.specs.Memory.{setTimer, expiries, sound, fresh}
-use Rattle.meaning.specs.Calls.{Outcome, done, numberOnly, call, effect, fits, messageChecks, message, localChecks, localValue, notification, cleared, buildChecks, build, expired, expiryChecks, expiry, makeFresh}
+use Rattle.meaning.specs.Calls.{Outcome, done, numberOnly, call, handled, fits, messageChecks, message, localChecks, localValue, notification, cleared, buildChecks, build, expired, expiryChecks, expiry, makeFresh}
 use Rattle.meaning.proofs.Lists.{octet-part}
 use Rattle.meaning.proofs.Tests.{every-at, first-passed}
 use Rattle.meaning.proofs.Places.{setTimer-length, part-setTimer}
@@ -58,7 +58,7 @@ pub message-number : (m s room : List ℕ) → message m s room .number ≤ 8
 unfolding message messageChecks
 message-number m s room =
     let cs = messageChecks m s (length room) in
-    let o = done (effect m s .reply) (effect m s .memory) room in
+    let o = done (handled m s .reply) (handled m s .memory) room in
     among-most 8 (call cs o m room .number) cs (omega arith) (call-among cs o m room refl)
 
 pub localValue-number : (m : List ℕ) (n : ℕ) (v : List ℕ)
@@ -184,7 +184,7 @@ call-room cs w m′ m room h =
 pub message-room : (m s room : List ℕ) → RoomAfter (message m s room) room
 unfolding message fits
 message-room m s room =
-    call-room (messageChecks m s (length room)) (effect m s .reply) (effect m s .memory) m room
+    call-room (messageChecks m s (length room)) (handled m s .reply) (handled m s .memory) m room
     (λ e. leb-true _ _ (every-at _ 0 (message-passed m s (length room) e .fit)))
 
 pub build-room : (m room : List ℕ) → RoomAfter (build m room) room

@@ -22,7 +22,7 @@ use Rattle.meaning.proofs.Tests.{first-passed, all-passing}
 use Rattle.meaning.proofs.Places.{listed-place}
 use Rattle.meaning.proofs.Checked.{call-memory, set-stores, set-either}
 use Rattle.meaning.proofs.Sound.{Sound, opened, put-present-same, put-present-other, put-body-same, put-body-other, present-setMarks, body-setMarks, present-setTimer, body-setTimer}
-use Rattle.meaning.proofs.Kept.{permits-most, stored-permitted, Settable, settable, step-sound, cleared-sound, effect-either, Local, local-opened, local-held, commit-not-port, expired-either}
+use Rattle.meaning.proofs.Kept.{permits-most, stored-permitted, Settable, settable, step-sound, cleared-sound, handled-either, Local, local-opened, local-held, commit-not-port, expired-either}
 use Rattle.meaning.proofs.Commit.{Commits, commits-spelt, spelt-commits}
 
 -- ---- the statement
@@ -196,7 +196,7 @@ unfolding message
 message-running m s room h =
     let P : List ℕ → Type 0 = λ m′. SameRunning m m′ ⊎ ((m′ ≡ after m (opsOf s)) × RunningBy m (opsOf s)) in
     call-memory P (messageChecks m s (length room)) _ m room (inl (same-running m))
-    (λ e. effect-either P m s (inr (refl, running-after m (opsOf s) h)) (inl (timer-same m 0 0 (opened m h))))
+    (λ e. handled-either P m s (inr (refl, running-after m (opsOf s) h)) (inl (timer-same m 0 0 (opened m h))))
 
 local-same : (m : List ℕ) (n : ℕ) (v : List ℕ) → Sound m → Local n v → SameRunning m (localMemory m (place n) v)
 unfolding localMemory

@@ -20,7 +20,7 @@ use Rattle.meaning.proofs.Places.{listed-place, timer-putCell, timer-pu
 use Rattle.meaning.proofs.Checked.{call-done, call-memory, call-passed, set-either}
 use Rattle.meaning.proofs.Sound.{opened}
 use Rattle.meaning.proofs.Kept.{permits-most, stored-permitted, settable, step-sound, Local, local-opened, local-held, message-sound, localValue-sound, build-sound, expiry-sound}
-use Rattle.meaning.proofs.Accepted.{message-passed, effect-command}
+use Rattle.meaning.proofs.Accepted.{message-passed, handled-command}
 use Rattle.meaning.proofs.Numbers.{build-10, build-11}
 use Rattle.meaning.proofs.Timer.{Timer, expiry-again, expiry-given-up, again-timer, given-up-timer, build-leaves}
 
@@ -144,7 +144,7 @@ pub message-timer : (m s room : List ℕ) → sound m ≡ true → isAcknowledge
 unfolding message carriedOut
 message-timer m s room h a =
     call-memory (SameTimer m) (messageChecks m s (length room)) _ m room refl
-    (λ e. rw (effect-command m s (command (isCommand s) (message-passed m s (length room) e .known))) (after-timer m (opsOf s) h))
+    (λ e. rw (handled-command m s (command (isCommand s) (message-passed m s (length room) e .known))) (after-timer m (opsOf s) h))
   where
     command : (b : Bool) → (b || isAcknowledgement s) ≡ true → b ≡ true
     command true e = refl

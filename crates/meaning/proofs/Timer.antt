@@ -11,7 +11,7 @@ use Rattle.meaning.specs.Octets.{every, implies, nonempty}
 use Rattle.meaning.specs.Checks.{firstFailed, whenPassed}
 use Rattle.meaning.specs.Table.{entryCount}
 use Rattle.meaning.specs.Memory.{timer, waiting, expiries, setTimer, subscribed, pending, sound}
-use Rattle.meaning.specs.Calls.{done, numberOnly, call, isCommand, isAcknowledgement, effect, acknowledged, fits, messageChecks, message, reports, notification, cleared, buildChecks, build, expiryChecks, expiry}
+use Rattle.meaning.specs.Calls.{done, numberOnly, call, isCommand, isAcknowledgement, handled, acknowledged, fits, messageChecks, message, reports, notification, cleared, buildChecks, build, expiryChecks, expiry}
 use Rattle.meaning.proofs.Places.{timer-setTimer, cell-setTimer}
 use Rattle.meaning.proofs.Sound.{Sound, opened}
 use Rattle.meaning.proofs.Kept.{cleared-sound, expired-again, expired-last}
@@ -34,7 +34,7 @@ timer-idles m S = record { waits = rw (timer-setTimer m 0 0 (S .long)); count = 
 
 pub acknowledged-idle : (m room : List ℕ) → sound m ≡ true → waiting m ≡ true → 1 ≤ length room
     → message m (4 ∷ []) room ≡ done (5 ∷ []) (setTimer m 0 0) room
-unfolding message call whenPassed messageChecks firstFailed effect acknowledged isCommand isAcknowledgement implies fits every
+unfolding message call whenPassed messageChecks firstFailed handled acknowledged isCommand isAcknowledgement implies fits every
 acknowledged-idle m room s w h = simp (s, w, le-leb 1 (length room) h)
 
 pub acknowledged-timer : (m room : List ℕ) → sound m ≡ true → waiting m ≡ true → 1 ≤ length room → Timer (message m (4 ∷ []) room .memory) false 0

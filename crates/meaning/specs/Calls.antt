@@ -57,7 +57,7 @@ unfoldable pub lengthRight : List ℕ → Bool
 lengthRight s = every (leb 3 (length s) ∷ leb 1 (lengthField s) ∷ leb (3 + lengthField s) (length s) ∷ [])
 
 -- what a message does once its checks pass: its reply, whether the reply's counts fit, and the memory afterwards
-pub record Effect : Type 0 where
+pub record Handled : Type 0 where
   pub reply : List ℕ
   pub counted : Bool
   pub memory : List ℕ
@@ -65,16 +65,16 @@ pub record Effect : Type 0 where
 unfoldable pub records : List ℕ → List Op → Records
 records m os = gathered (answers m os)
 
-unfoldable pub carriedOut : List ℕ → List Op → Effect
+unfoldable pub carriedOut : List ℕ → List Op → Handled
 carriedOut m os = record { reply = complete (records m os); counted = countsFit (records m os); memory = after m os }
 
-unfoldable pub acknowledged : List ℕ → Effect
+unfoldable pub acknowledged : List ℕ → Handled
 acknowledged m = record { reply = typeNotifyComplete ∷ []; counted = true; memory = setTimer m 0 0 }
 
-unfoldable pub effect : List ℕ → List ℕ → Effect
-effect m s = cond (isCommand s) (carriedOut m (opsOf s)) (acknowledged m)
+unfoldable pub handled : List ℕ → List ℕ → Handled
+handled m s = cond (isCommand s) (carriedOut m (opsOf s)) (acknowledged m)
 
-unfoldable pub fits : ℕ → Effect → Bool
+unfoldable pub fits : ℕ → Handled → Bool
 fits n d = every (leb (length (d .reply)) n ∷ leb (length (d .reply)) replyMost ∷ d .counted ∷ [])
 
 -- in the order of RULES 15.16
@@ -87,10 +87,10 @@ messageChecks m s n =
     (check 5 (implies (isCommand s) (lengthRight s))
     (check 6 (implies (isCommand s) (isSome (parse (operations s))))
     (check 8 (implies (isAcknowledgement s) (waiting m))
-    (check 7 (fits n (effect m s)) passed)))))))
+    (check 7 (fits n (handled m s)) passed)))))))
 
 unfoldable pub message : List ℕ → List ℕ → List ℕ → Outcome
-message m s room = call (messageChecks m s (length room)) (done (effect m s .reply) (effect m s .memory) room) m room
+message m s room = call (messageChecks m s (length room)) (done (handled m s .reply) (handled m s .memory) room) m room
 
 -- ---- a local value (RULES 13)
 

@@ -1,4 +1,4 @@
--- A record taken in the program is one piece taken, and a faulty one is the last; what is known of the rest.
+-- A instruction taken in the program is one piece taken, and a faulty one is the last; what is known of the rest.
 use Prim.Native.Nat.{ℕ, _+_, _-_, _≤_, _<_}
 use native.Mathlib.Omega.{arith}
 use mathlib.Core.Path.{_≡_, subst}
@@ -19,30 +19,30 @@ use Rattle.script.specs.Takes.{Lends, Takes}
 use Rattle.script.specs.declared.Lent.{Lent}
 use Rattle.script.specs.declared.Took.{Took}
 use Rattle.script.specs.declared.Took.the-variants as took
-use Rattle.rig.specs.Script.{effectOf, records, port, Serves}
+use Rattle.rig.specs.Script.{effectOf, instructions, port, Serves}
 use Rattle.rig.specs.declared.Served.{Served}
 use Rattle.rig.specs.declared.Served.the-variants.{Rest}
 
 module _ (held out : List ℕ) (p : Between Port) (memory room : List ℕ) (lent : Lent) (from at : ℕ) (r : Took) (memory′ room′ out′ : List ℕ) {end : ℕ}
-    (j : Joins records held p (port memory room lent from) at out) (k : at ≤ length out) (w : wholeAt 3 held from ≡ true) (e : end ≡ from + needed held from 3)
+    (j : Joins instructions held p (port memory room lent from) at out) (k : at ≤ length out) (w : wholeAt 3 held from ≡ true) (e : end ≡ from + needed held from 3)
     (t : Takes (octet held from) (take (end - (from + 3)) (drop (from + 3) held)) memory room lent out at r memory′ room′ out′) where
-  -- the record, as it is cut from what is held
+  -- the instruction, as it is cut from what is held
   of-piece : Takes (pieceAt 3 held from .first) (pieceAt 3 held from .body) memory room lent out at r memory′ room′ out′
   of-piece = subst (λ (x : Piece). Takes (x .first) (x .body) memory room lent out at r memory′ room′ out′) (cut-out 3 held from e) t
 
-  pub record-turn : {to : ℕ} {lends : Lent} → r ≡ took.Line to lends → (to ≤ at + 16389) × Lends lends × Joins records held p (port memory′ room′ lends end) to out′
+  pub instruction-turn : {to : ℕ} {lends : Lent} → r ≡ took.Line to lends → (to ≤ at + 16389) × Lends lends × Joins instructions held p (port memory′ room′ lends end) to out′
   unfolding goesOn lineAt next effectOf
-  record-turn {to} {lends} f =
+  instruction-turn {to} {lends} f =
       let b : Takes (pieceAt 3 held from .first) (pieceAt 3 held from .body) memory room lent out at (took.Line to lends) memory′ room′ out′ = rw f at of-piece in
-      (b .1 .short, b .1 .lends, turn records (omega arith) held out p (port memory room lent from) at j k (rw (w, b .0)) (rw (b .1 .memoryIs, b .1 .roomIs, e)) (b .1 .wrote))
+      (b .1 .short, b .1 .lends, turn instructions (omega arith) held out p (port memory room lent from) at j k (rw (w, b .0)) (rw (b .1 .memoryIs, b .1 .roomIs, e)) (b .1 .wrote))
 
-  pub record-faulty : {to : ℕ} {out″ : List ℕ} → r ≡ took.Faulty → Wrote out′ at cutLine to out″
-      → Faulty records held from × (taken records held (port memory′ room′ lent from) ≡ taken records held p) × (take to out″ ++ [] ≡ lines records held p)
-  record-faulty f c =
+  pub instruction-faulty : {to : ℕ} {out″ : List ℕ} → r ≡ took.Faulty → Wrote out′ at cutLine to out″
+      → Faulty instructions held from × (taken instructions held (port memory′ room′ lent from) ≡ taken instructions held p) × (take to out″ ++ [] ≡ lines instructions held p)
+  instruction-faulty f c =
       let b : Takes (pieceAt 3 held from .first) (pieceAt 3 held from .body) memory room lent out at took.Faulty memory′ room′ out′ = rw f at of-piece in
-      let g : Joins records held p (port memory′ room′ lent from) at out′ = rw (b .1, b .2, b .3) j in
+      let g : Joins instructions held p (port memory′ room′ lent from) at out′ = rw (b .1, b .2, b .3) j in
       let l : at ≤ length out′ = rw (b .3) k in
-      ((w, b .0), g .0, cut-off records (omega arith) held out′ p (port memory′ room′ lent from) at g l (w, b .0) c)
+      ((w, b .0), g .0, cut-off instructions (omega arith) held out′ p (port memory′ room′ lent from) at g l (w, b .0) c)
 
 pub rest : (held : List ℕ) (p : Between Port) (memory room : List ℕ) {from : ℕ} {lends : Lent} {r : Served} → r ≡ Rest from lends → Serves held p r memory room
     → (from ≤ length held) × (length held < from + 65538) × Lends lends

@@ -1,5 +1,5 @@
-// The program `rig`: drives every call of the endpoint from a script of records on standard input, one line a record to
-// standard output. Input is read in large blocks, and lines are written out in blocks.
+// The program `rig` (RULES 17): a script of instructions from standard input, each a call of the endpoint or something to
+// show, one line an instruction to standard output. Input is read in large blocks, and lines are written out in blocks.
 use script::Lent;
 use script::Took;
 use stdio::Input;
@@ -10,21 +10,19 @@ ghost use lib.ListN.{length, take};
 ghost use Rattle.meaning.specs.Memory.{fresh};
 ghost use Rattle.stdio.specs.Taking.{Batched};
 ghost use Rattle.script.specs.Takes.{Lends, Ready};
-ghost use Rattle.rig.specs.Script.{records, port, Serves};
+ghost use Rattle.rig.specs.Script.{instructions, port, Serves};
 
-// Octets of a record's head: its code, its length.
+// Octets of an instruction's head: its code, its length.
 const HEAD: usize = 3;
-// Octets of input that are held: the longest record and nearly as many again.
+// Octets of input that are held: the longest instruction and nearly as many again.
 const INPUT: usize = 131072;
 // Lines are written out when they fill this much.
 const DUE: usize = 65536;
-// Octets that the line of a full room may take.
-const LINE: usize = 16389;
-// Octets of fresh memory.
-const FRESH: usize = 2100;
+// Octets that the line of a full room may take: two digits for each octet, the number before and the line's end.
+const LINE: usize = 2 * script::MOST_ROOM + 5;
 
-// How far the records that are held are taken: the place of the next one, the place after the lines, what is lent, and
-// whether the next one is faulty.
+// How far the instructions that are held are taken: the place of the next one, the place after the lines, what is lent,
+// and whether the next one is faulty.
 struct Batch {
     from: usize,
     at: usize,
@@ -32,7 +30,7 @@ struct Batch {
     faulty: bool,
 }
 
-// What became of the records that are held: the place from which more input is wanted, and what is lent; or that a record
+// What became of the instructions that are held: the place from which more input is wanted, and what is lent; or that one
 // is faulty, or output cannot be written.
 enum Served {
     Rest(usize, Lent),
@@ -40,8 +38,8 @@ enum Served {
     Closed,
 }
 
-// Takes whole records from a place on, until none is left, one is faulty or lines are due.
-fn take_records(
+// Takes whole instructions from a place on, until none is left, one is faulty or lines are due.
+fn take_instructions(
     memory: &mut [u8],
     room: &mut [u8],
     lent: Lent,
@@ -51,7 +49,7 @@ fn take_records(
 ) -> Batch
     requires { ⌜ Ready (now memory) (now room) lent (now out) 65535 × (from ≤ length (now held)) ⌝ }
     ensures { λ r. ⌜ Lends (r .lent) ⌝ }
-    ensures { λ r. ⌜ Batched records (now (held .entry)) (port (now (memory .entry)) (now (room .entry)) lent from) (port (now (memory .exit)) (now (room .exit)) (r .lent) (r .from)) (r .faulty) (r .at) (now (out .exit)) ⌝ }
+    ensures { λ r. ⌜ Batched instructions (now (held .entry)) (port (now (memory .entry)) (now (room .entry)) lent from) (port (now (memory .exit)) (now (room .exit)) (r .lent) (r .from)) (r .faulty) (r .at) (now (out .exit)) ⌝ }
 {
     let mut lends = lent;
     let mut next = from;
@@ -65,7 +63,7 @@ fn take_records(
                 faulty: false,
             };
         };
-        let Took::Line(to, left) = script::take_record(
+        let Took::Line(to, left) = script::take_instruction(
             memory,
             room,
             lends,
@@ -93,8 +91,8 @@ fn take_records(
     }
 }
 
-// Takes every whole record that is held, up to a faulty one. All lines are written out at the end, so that a peer which
-// waits for them has them before the next read.
+// Takes every whole instruction that is held, up to a faulty one. All lines are written out at the end, so that a peer
+// which waits for them has them before the next read.
 fn serve(memory: &mut [u8], room: &mut [u8], lent: Lent, held: &[u8], out: &mut [u8]) -> Served
     requires { ⌜ Ready (now memory) (now room) lent (now out) 65535 ⌝ }
     ensures { λ r. ⌜ Serves (now (held .entry)) (port (now (memory .entry)) (now (room .entry)) lent 0) r (now (memory .exit)) (now (room .exit)) ⌝ }
@@ -102,7 +100,7 @@ fn serve(memory: &mut [u8], room: &mut [u8], lent: Lent, held: &[u8], out: &mut 
     let mut lends = lent;
     let mut from = 0;
     loop {
-        let batch = take_records(memory, room, lends, held, from, out);
+        let batch = take_instructions(memory, room, lends, held, from, out);
         if !stdio::write_out(&out[..batch.at], b"rig") {
             return Served::Closed;
         }
@@ -117,13 +115,13 @@ fn serve(memory: &mut [u8], room: &mut [u8], lent: Lent, held: &[u8], out: &mut 
     }
 }
 
-// Reads and serves until the input ends or a record is faulty. A proved loop has to end, and nothing says that input does:
-// so the loop counts its turns down, from a number that no run uses up.
+// Reads and serves until the input ends or an instruction is faulty. A proved loop has to end, and nothing says that input
+// does: so the loop counts its turns down, from a number that no run uses up.
 fn run(memory: &mut [u8], block: &mut [u8], room: &mut [u8], out: &mut [u8])
     requires { ⌜ (length (now memory) ≡ 2200) × (length (now block) ≡ 131072) × (length (now room) ≡ 8192) × (length (now out) ≡ 81925) ⌝ }
 {
     let mut lent = Lent {
-        memory: FRESH,
+        memory: endpoint::MEMORY_LENGTH,
         room: 0,
     };
     let mut from = 0;
@@ -148,7 +146,7 @@ fn start(memory: &mut [u8])
     requires { ⌜ length (now memory) ≡ 2200 ⌝ }
     ensures { λ _. ⌜ take 2100 (now (memory .exit)) ≡ fresh ⌝ }
 {
-    endpoint::make_fresh(&mut memory[..FRESH]);
+    endpoint::make_fresh(&mut memory[..endpoint::MEMORY_LENGTH]);
 }
 
 fn main() {

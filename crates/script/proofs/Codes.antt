@@ -16,7 +16,7 @@ use Rattle.meaning.proofs.Refused.{RoomAfter, message-room, build-room, localVa
 use Rattle.endpoint.specs.Outcomes.{Gives}
 use Rattle.endpoint.specs.declared.Outcome as answers
 use Rattle.text.specs.Lines.{octetsLine, lentLine}
-use Rattle.script.specs.Records.{bodyRight, anew, nanoseconds, printed, roomFor, alone, called, answered, effect}
+use Rattle.script.specs.Instructions.{bodyRight, anew, nanoseconds, printed, roomFor, alone, called, answered, effect}
 
 -- ---- bodies
 

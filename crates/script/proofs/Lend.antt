@@ -1,4 +1,4 @@
--- What is left in the arrays: a front that was lent and came back, and what a record leaves of a call's answer or of a line.
+-- What is left in the arrays: a front that was lent and came back, and what an instruction leaves of a call's answer or of a line.
 use Prim.Native.Nat.{ℕ, _+_, _-_, _≤_}
 use native.Mathlib.Nat.{zero-add}
 use native.Mathlib.Omega.{arith}
@@ -14,7 +14,7 @@ use Rattle.octets.proofs.Splices.{splice-front}
 use Rattle.text.specs.Answers.{Answers}
 use Rattle.text.specs.Lines.{octetsLine, lentLine}
 use Rattle.text.proofs.Writes.{octets-short, lent-short}
-use Rattle.script.specs.Records.{Effect, roomLength, anew, printed, answered}
+use Rattle.script.specs.Instructions.{Effect, roomLength, anew, printed, answered}
 use Rattle.script.specs.Takes.{Lends, Leaves}
 use Rattle.script.specs.declared.Lent.{Lent}
 

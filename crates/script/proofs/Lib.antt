@@ -1,3 +1,3 @@
--- Laws of records: their codes and calls, and what is left in the arrays.
+-- Laws of instructions: their codes and calls, and what is left in the arrays.
 pub mod Codes
 pub mod Lend

@@ -1,3 +1,3 @@
 -- What the contracts of `script` cite beside `meaning`, `endpoint` and `text`.
-pub mod Records
+pub mod Instructions
 pub mod Takes

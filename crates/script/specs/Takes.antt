@@ -1,11 +1,11 @@
--- What the functions say of records: what is lent, and what a record that is taken leaves.
+-- What the functions say of instructions: what is lent, and what an instruction that is taken leaves.
 use Prim.Native.Nat.{ℕ, _+_, _≤_}
 use mathlib.Core.Path.{_≡_}
 use mathlib.Core.Bool.{true, false}
 use mathlib.Core.List.{List}
 use lib.ListN.{length, take}
 use Rattle.octets.specs.Writing.{Wrote}
-use Rattle.script.specs.Records.{Effect, bodyRight, effect}
+use Rattle.script.specs.Instructions.{Effect, bodyRight, effect}
 use Rattle.script.specs.declared.Lent.{Lent}
 use Rattle.script.specs.declared.Took.{Took}
 use Rattle.script.specs.declared.Took.the-variants.{Line, Faulty}
@@ -18,7 +18,7 @@ Lends lent = (lent .memory ≤ 2200) × (lent .room ≤ 8192)
 abbrev pub Ready : List ℕ → List ℕ → Lent → List ℕ → ℕ → Type 0
 Ready memory room lent out at = (length memory ≡ 2200) × (length room ≡ 8192) × Lends lent × (at + 16389 ≤ length out)
 
--- a record that had the effect d: its line has been written, and what is lent from now on is as it says
+-- an instruction that had the effect d: its line has been written, and what is lent from now on is as it says
 pub record Leaves (d : Effect) (out : List ℕ) (at end : ℕ) (lent : Lent) (memory room out′ : List ℕ) : Type 0 where
   pub wrote : Wrote out at (d .line) end out′
   pub short : end ≤ at + 16389
@@ -26,7 +26,7 @@ pub record Leaves (d : Effect) (out : List ℕ) (at end : ℕ) (lent : Lent) (me
   pub memoryIs : take (lent .memory) memory ≡ d .memory
   pub roomIs : take (lent .room) room ≡ d .room
 
--- a record is taken where its body is right, and then does what its definition says of what was lent; else nothing is changed
+-- an instruction is taken where its body is right, and then does what its definition says of what was lent; else nothing is changed
 abbrev pub Takes : ℕ → List ℕ → List ℕ → List ℕ → Lent → List ℕ → ℕ → Took → List ℕ → List ℕ → List ℕ → Type 0
 Takes code body memory room lent out at (Line end lends) memory′ room′ out′ =
     (bodyRight code (length body) ≡ true) × Leaves (effect code body (take (lent .memory) memory) (take (lent .room) room)) out at end lends memory′ room′ out′

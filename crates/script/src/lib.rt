@@ -1,4 +1,5 @@
-// The records of a script: each is a call of the endpoint over what is lent, or shows or lends something, and prints a line.
+// The instructions of a script: each is a call of the endpoint over what is lent, or shows or lends something, and prints
+// a line.
 ghost use Prim.Native.Nat.{_+_, _≤_, _<_};
 ghost use mathlib.Core.Path.{_≡_};
 ghost use mathlib.Core.Bool.{true};
@@ -7,13 +8,15 @@ ghost use Rattle.meaning.specs.Delay.{delay};
 ghost use Rattle.octets.specs.Writing.{Wrote};
 ghost use Rattle.endpoint.specs.Outcomes.{Gives};
 ghost use Rattle.text.specs.Lines.{octetsLine};
-ghost use Rattle.script.specs.Records.{bodyRight, roomLength, anew, roomFor, called, nanoseconds};
+ghost use Rattle.script.specs.Instructions.{bodyRight, roomLength, anew, roomFor, called, nanoseconds};
 ghost use Rattle.script.specs.Takes.{Ready, Takes};
 
 // Most octets that can be lent as memory.
 pub const MOST_LENT: usize = 2200;
 // Most octets of a room; a larger length counts as this.
 pub const MOST_ROOM: usize = 8192;
+// What the high four octets of eight are worth.
+const HIGH: u64 = 1 << 32;
 // What a room made anew holds.
 const ROOM_FILL: u8 = 0xA5;
 
@@ -23,7 +26,7 @@ pub struct Lent {
     pub room: usize,
 }
 
-// What became of a record: the place after its line, and what is lent from then on; or it is faulty.
+// What became of an instruction: the place after its line, and what is lent from then on; or it is faulty.
 pub enum Took {
     Line(usize, Lent),
     Faulty,
@@ -71,7 +74,7 @@ fn make_room(room: &mut [u8], asked: usize) -> usize
     n
 }
 
-// The room that a call is lent: made anew where its record asks for one, else that of the last; its length.
+// The room that a call is lent: made anew where its instruction asks for one, else that of the last; its length.
 fn room_for(room: &mut [u8], last: usize, code: u8, body: &[u8]) -> usize
     requires { ⌜ (length (now room) ≡ 8192) × (last ≤ 8192) × (bodyRight code (length (now body)) ≡ true) × (code < 5) ⌝ }
     ensures { λ r. ⌜ (r ≤ 8192) × (take r (now (room .exit)) ≡ roomFor code (now (body .entry)) (take last (now (room .entry)))) ⌝ }
@@ -83,7 +86,7 @@ fn room_for(room: &mut [u8], last: usize, code: u8, body: &[u8]) -> usize
     }
 }
 
-// The calls over memory, by their records' codes.
+// The calls over memory, by their instructions' codes.
 fn call(memory: &mut [u8], room: &mut [u8], code: u8, body: &[u8]) -> endpoint::Outcome
     requires { ⌜ (bodyRight code (length (now body)) ≡ true) × (code < 5) ⌝ }
     ensures { λ r. ⌜ Gives (called code (now (body .entry)) (now (memory .entry)) (now (room .entry))) r (now (memory .exit)) (now (room .exit)) ⌝ }
@@ -102,12 +105,12 @@ fn show_delay(body: &[u8], out: &mut [u8], at: usize) -> usize
     requires { ⌜ (length (now body) ≡ 8) × (at + 18 ≤ length (now out)) ⌝ }
     ensures { λ r. ⌜ Wrote (now (out .entry)) at (octetsLine (delay (nanoseconds (now (body .entry))))) r (now (out .exit)) ⌝ }
 {
-    let time = octets::get32(body, 0) * 4294967296 + octets::get32(body, 4);
+    let time = octets::get32(body, 0) * HIGH + octets::get32(body, 4);
     let stored = endpoint::delay_octets(delay::Nanoseconds(time));
     text::write_octets(out, at, &stored)
 }
 
-// The records that are no calls over memory.
+// The instructions that are no calls over memory.
 fn take_other(
     memory: &mut [u8],
     room: &[u8],
@@ -134,8 +137,8 @@ fn take_other(
     }
 }
 
-// Takes one record: what is lent is lent to its call, and its line is written at a place.
-pub fn take_record(
+// Takes one instruction: what is lent is lent to its call, and its line is written at a place.
+pub fn take_instruction(
     memory: &mut [u8],
     room: &mut [u8],
     lent: Lent,

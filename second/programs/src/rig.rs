@@ -1,4 +1,4 @@
-//! The program `rig`: drives all calls from a script of records, one line a record.
+//! The program `rig`: drives all calls from a script of instructions, one line an instruction.
 
 use std::io::{self, Read, Write};
 
@@ -31,7 +31,7 @@ pub mod code {
     pub const DELAY: u8 = 0x08;
 }
 
-/// A record's head: code, length (2).
+/// An instruction's head: code, length (2).
 pub const HEAD: usize = 3;
 /// Most octets that can be lent as memory.
 pub const MOST_LENT: usize = 2_200;
@@ -43,11 +43,11 @@ pub const ROOM_FILL: u8 = 0xA5;
 /// Carries out the script on `input` and prints its lines on `output`.
 pub fn run<R: Read, W: Write>(input: R, output: W) -> io::Result<()> {
     let mut rig = Rig::new(Lines::new(output));
-    let mut records = Pieces::new(input, HEAD);
+    let mut instructions = Pieces::new(input, HEAD);
     loop {
-        match records.next(&mut rig.lines)? {
+        match instructions.next(&mut rig.lines)? {
             Piece::Whole(head, body) => {
-                if rig.record(head[0], body)? {
+                if rig.instruction(head[0], body)? {
                     continue;
                 }
                 rig.lines.text("cut")?;
@@ -77,8 +77,8 @@ impl<W: Write> Rig<W> {
         }
     }
 
-    /// Carries out one record; false for an unknown code or a body of the wrong length.
-    pub fn record(&mut self, code: u8, body: &[u8]) -> io::Result<bool> {
+    /// Carries out one instruction; false for an unknown code or a body of the wrong length.
+    pub fn instruction(&mut self, code: u8, body: &[u8]) -> io::Result<bool> {
         let answer = match (code, body) {
             (code::MAKE_FRESH, []) => make_fresh(&mut self.memory),
             (code::MESSAGE, [high, low, message @ ..]) => {
@@ -101,7 +101,7 @@ impl<W: Write> Rig<W> {
         Ok(true)
     }
 
-    /// The records that are no calls over memory.
+    /// The instructions that are no calls over memory.
     fn other(&mut self, code: u8, body: &[u8]) -> io::Result<bool> {
         match (code, body) {
             (code::LEND, memory) if memory.len() <= MOST_LENT => {

@@ -1,6 +1,6 @@
 -- `script::body_right` meets its contract.
 use mathlib.Core.Path.{sym}
-use Rattle.script.specs.Records.{bodyRight}
+use Rattle.script.specs.Instructions.{bodyRight}
 use Rattle.script.proofs.Codes.{other}
 use Rattle.script.proofs.body_right.Statement.{statement}
 use Rattle.script.proofs.body_right.Tie as tie

@@ -4,7 +4,7 @@ use mathlib.Core.Path.{sym, ap, _∙_}
 use mathlib.Core.Logic.{inl, inr}
 use lib.ListN.{take}
 use borrow.Author.Needs.{needs}
-use Rattle.script.specs.Records.{anew}
+use Rattle.script.specs.Instructions.{anew}
 use Rattle.script.proofs.Codes.{message-body, build-body, room-made, room-last}
 use Rattle.script.proofs.room_for.Statement.{statement}
 use Rattle.script.proofs.room_for.Tie as tie

@@ -1,7 +1,7 @@
 -- `script::room_length` meets its contract.
 use native.Mathlib.Omega.{arith}
 use borrow.Author.Tests.{lt-ltb, le-ltb}
-use Rattle.script.specs.Records.{roomLength}
+use Rattle.script.specs.Instructions.{roomLength}
 use Rattle.script.proofs.room_length.Statement.{statement}
 use Rattle.script.proofs.room_length.Tie as tie
 

@@ -3,7 +3,7 @@ use Prim.Native.Nat.{ℕ, _+_, _*_}
 use mathlib.Core.Path.{_≡_, ap, ap₂, _∙_}
 use borrow.Author.Needs.{needs}
 use Rattle.meaning.specs.Delay.{delay}
-use Rattle.script.specs.Records.{nanoseconds}
+use Rattle.script.specs.Instructions.{nanoseconds}
 use Rattle.script.proofs.show_delay.Statement.{statement}
 use Rattle.script.proofs.show_delay.Tie as tie
 

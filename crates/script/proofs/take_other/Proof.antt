@@ -7,7 +7,7 @@ use borrow.Author.Needs.{needs}
 use Rattle.meaning.specs.Delay.{delay}
 use Rattle.text.specs.Lines.{octetsLine}
 use Rattle.text.proofs.Writes.{octets-short}
-use Rattle.script.specs.Records.{nanoseconds}
+use Rattle.script.specs.Instructions.{nanoseconds}
 use Rattle.script.proofs.Codes.{known, lend-body, delay-body, lend-row, memory-row, room-row, delay-row}
 use Rattle.script.proofs.Lend.{line-left, lend-left, delay-short}
 use Rattle.script.proofs.take_other.Statement.{statement}

@@ -1,4 +1,4 @@
-//! Carries out a script of records from standard input, one line a record.
+//! Carries out a script of instructions from standard input, one line an instruction.
 
 use std::process::ExitCode;
 

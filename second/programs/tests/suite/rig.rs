@@ -3,21 +3,21 @@
 use crate::process::{assert_quiet_without_reader, assert_refused, lines, Peer, RIG};
 use kit::{command, hex, read, set, subscribe, Bench};
 
-fn record(code: u8, body: &[u8]) -> Vec<u8> {
+fn instruction(code: u8, body: &[u8]) -> Vec<u8> {
     let [high, low] = (body.len() as u16).to_be_bytes();
     [&[code, high, low], body].concat()
 }
 
 fn message(room: u16, message: &[u8]) -> Vec<u8> {
-    record(1, &[&room.to_be_bytes(), message].concat())
+    instruction(1, &[&room.to_be_bytes(), message].concat())
 }
 
 fn local(name: u16, value: &[u8]) -> Vec<u8> {
-    record(2, &[&name.to_be_bytes(), value].concat())
+    instruction(2, &[&name.to_be_bytes(), value].concat())
 }
 
 fn build(room: u16) -> Vec<u8> {
-    record(3, &room.to_be_bytes())
+    instruction(3, &room.to_be_bytes())
 }
 
 fn digits(octets: &[u8]) -> String {
@@ -26,7 +26,7 @@ fn digits(octets: &[u8]) -> String {
 
 #[test]
 fn it_starts_with_fresh_memory_and_an_empty_room() {
-    let script = [record(6, &[]), record(7, &[])].concat();
+    let script = [instruction(6, &[]), instruction(7, &[])].concat();
     assert_eq!(
         lines(RIG, &script),
         [digits(&Bench::fresh().memory), "-".into()]
@@ -41,9 +41,9 @@ fn every_call_prints_its_line() {
     script.extend(local(0x00A4, &[0, 9]));
     script.extend(local(0x00A5, &[0, 9]));
     script.extend([build(1_599), build(1_600), build(1_600)].concat());
-    script.extend(record(4, &[]).repeat(2));
-    script.extend([message(4, &[4]), record(4, &[]), build(1_600)].concat());
-    script.extend([message(4, &[]), message(4, &[4]), record(0, &[])].concat());
+    script.extend(instruction(4, &[]).repeat(2));
+    script.extend([message(4, &[4]), instruction(4, &[]), build(1_600)].concat());
+    script.extend([message(4, &[]), message(4, &[4]), instruction(0, &[])].concat());
     let expected = [
         "0 02",
         "7 -",
@@ -68,7 +68,7 @@ fn every_call_prints_its_line() {
 fn a_notification_is_given_up_at_the_fifth_expiry() {
     let mut script = message(1, &command(&subscribe(0x0008)));
     script.extend([local(0x0008, &[1; 4]), build(4_096)].concat());
-    script.extend(record(4, &[]).repeat(6));
+    script.extend(instruction(4, &[]).repeat(6));
     let printed = lines(RIG, &script);
     assert_eq!(
         printed[3..],
@@ -86,17 +86,17 @@ fn rooms_are_made_anew() {
         (8_193, 8_192),
         (65_535, 8_192),
     ] {
-        let script = [message(asked, &command(&read(0x0003))), record(7, &[])].concat();
+        let script = [message(asked, &command(&read(0x0003))), instruction(7, &[])].concat();
         let room = format!("{reply}{}", "a5".repeat(made - 11));
         assert_eq!(lines(RIG, &script), [format!("0 {reply}"), room]);
     }
     let script = [
         message(10, &command(&read(0x0003))),
-        record(7, &[]),
+        instruction(7, &[]),
         message(0, &[]),
     ]
     .concat();
-    let script = [script, record(7, &[]), build(3), record(7, &[])].concat();
+    let script = [script, instruction(7, &[]), build(3), instruction(7, &[])].concat();
     let expected = ["7 -", &"a5".repeat(10), "2 -", "-", "11 -", "a5a5a5"];
     assert_eq!(lines(RIG, &script), expected);
 }
@@ -105,12 +105,33 @@ fn rooms_are_made_anew() {
 fn memory_can_be_lent() {
     let mut bench = Bench::fresh();
     bench.done(&set(0x0003, &[1]));
-    let mut script = record(5, &bench.memory);
+    let mut script = instruction(5, &bench.memory);
     script.extend(message(4_096, &command(&read(0x0003))));
-    script.extend([record(5, &[]), record(6, &[]), record(0, &[])].concat());
-    script.extend([record(5, &[1; 2_200]), message(9, &[]), record(0, &[])].concat());
-    script.extend([record(5, &[1; 2_100]), record(4, &[]), record(0, &[])].concat());
-    script.extend(record(6, &[]));
+    script.extend(
+        [
+            instruction(5, &[]),
+            instruction(6, &[]),
+            instruction(0, &[]),
+        ]
+        .concat(),
+    );
+    script.extend(
+        [
+            instruction(5, &[1; 2_200]),
+            message(9, &[]),
+            instruction(0, &[]),
+        ]
+        .concat(),
+    );
+    script.extend(
+        [
+            instruction(5, &[1; 2_100]),
+            instruction(4, &[]),
+            instruction(0, &[]),
+        ]
+        .concat(),
+    );
+    script.extend(instruction(6, &[]));
     let fresh = digits(&Bench::fresh().memory);
     let expected = [
         "lent 2100",
@@ -134,7 +155,7 @@ fn delays_are_converted() {
     let delays = [0, 1, (1 << 47) - 1, 1 << 47, u64::MAX];
     let script: Vec<u8> = delays
         .iter()
-        .flat_map(|d| record(8, &d.to_be_bytes()))
+        .flat_map(|d| instruction(8, &d.to_be_bytes()))
         .collect();
     let expected = [
         "0000000000000000",
@@ -147,7 +168,7 @@ fn delays_are_converted() {
 }
 
 #[test]
-fn faulty_records_end_the_run() {
+fn faulty_instructions_end_the_run() {
     let wrong_lengths = [
         (0, 1),
         (1, 0),
@@ -168,16 +189,16 @@ fn faulty_records_end_the_run() {
     ];
     let mut faulty: Vec<Vec<u8>> = wrong_lengths
         .iter()
-        .map(|(code, length)| record(*code, &vec![0; *length]))
+        .map(|(code, length)| instruction(*code, &vec![0; *length]))
         .collect();
-    faulty.extend([record(9, &[]), record(0xFF, &[1, 2])]);
+    faulty.extend([instruction(9, &[]), instruction(0xFF, &[1, 2])]);
     let whole = message(64, &command(&read(0x0003)));
     faulty.extend((1..whole.len()).map(|kept| whole[..kept].to_vec()));
-    for record_at_fault in faulty {
-        let script = [record(4, &[]), record_at_fault].concat();
+    for at_fault in faulty {
+        let script = [instruction(4, &[]), at_fault].concat();
         assert_eq!(lines(RIG, &script), ["8 -", "cut"]);
     }
-    let script = [record(9, &[]), record(4, &[])].concat();
+    let script = [instruction(9, &[]), instruction(4, &[])].concat();
     assert_eq!(lines(RIG, &script), ["cut"]);
 }
 
@@ -187,7 +208,7 @@ fn a_peer_on_a_pipe_gets_each_answer() {
     for _ in 0..3 {
         peer.write(&message(64, &command(&read(0x0003))));
         assert_eq!(peer.line(), "0 0271000701000300010000\n");
-        peer.write(&record(4, &[]));
+        peer.write(&instruction(4, &[]));
         assert_eq!(peer.line(), "8 -\n");
     }
     peer.write(&hex("00 00"));
@@ -197,5 +218,5 @@ fn a_peer_on_a_pipe_gets_each_answer() {
 #[test]
 fn wrong_use() {
     assert_refused(RIG, &["anything"]);
-    assert_quiet_without_reader(RIG, &[], &record(6, &[]).repeat(20_000));
+    assert_quiet_without_reader(RIG, &[], &instruction(6, &[]).repeat(20_000));
 }

@@ -31,11 +31,11 @@ fn programs_start_from_anywhere() {
     }
     // The rig: memory is lent, and a record is cut.
     for script in [
-        "./rig records",
-        "sh rig records",
-        "cd / && \"$OLDPWD/rig\" \"$OLDPWD/records\"",
+        "./rig script",
+        "sh rig script",
+        "cd / && \"$OLDPWD/rig\" \"$OLDPWD/script\"",
     ] {
-        fs::write(root.join("records"), "05 0002 A5A5 06 0000 # shown\n 01 00").unwrap();
+        fs::write(root.join("script"), "05 0002 A5A5 06 0000 # shown\n 01 00").unwrap();
         place.assert_shell(script, 0, "lent 2\na5a5\ncut\n", "");
     }
 }

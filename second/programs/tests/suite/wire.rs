@@ -1,4 +1,5 @@
-//! The names for what stands on the wire: the definitions and the code give each the same number.
+//! The names for what stands on the wire and in memory: the definitions, the code and docs/HOST.md give each the same
+//! number.
 
 use std::collections::BTreeMap;
 use std::fs;
@@ -30,7 +31,7 @@ fn defined(specs: &str) -> BTreeMap<String, u64> {
     lines.map(|(n, v)| (upper(n), value(v))).collect()
 }
 
-/// The constants of the code.
+/// The constants of the code that are a number.
 fn constants(code: &str) -> BTreeMap<String, u64> {
     let lines = code.lines().filter_map(|l| l.strip_prefix("pub const "));
     let parts = lines.map(|line| {
@@ -61,4 +62,41 @@ fn another_number_or_a_missing_name_is_seen() {
         constants("pub const TYPE: u8 = 1;\n").get("TYPE_NOTIFY_ACK"),
         None
     );
+}
+
+/// Constants of `endpoint` and their numbers, as docs/HOST.md has them in rows of a table.
+fn told(host: &str) -> Vec<(String, u64)> {
+    let rows = host.lines().filter_map(|line| line.strip_prefix("| `"));
+    let cells = rows.filter_map(|row| row.split_once("` | "));
+    let numbers = cells.map(|(names, rest)| (names, rest.split(" | ").next().unwrap_or("")));
+    let pairs = numbers.flat_map(|(names, numbers)| {
+        let names = names.split("`, `").map(String::from);
+        names.zip(numbers.split(", ").map(|n| n.replace(',', "")))
+    });
+    let constant = |name: &str| name.chars().all(|c| c.is_ascii_uppercase() || c == '_');
+    pairs
+        .filter(|(name, _)| constant(name))
+        .map(|(name, number)| (name, number.parse().unwrap()))
+        .collect()
+}
+
+#[test]
+fn a_host_is_told_the_numbers_of_the_code() {
+    let table = constants(&text("crates/table/src/lib.rt"));
+    let cell = table["CELL_LENGTH"] * table["COMMIT"];
+    let mut known = constants(&text("crates/wire/src/lib.rt"));
+    known.extend(table.clone());
+    known.insert("RUNNING_FLAGS_AT".into(), cell + table["FLAGS_AT"]);
+    known.insert("RUNNING_LENGTH_AT".into(), cell + table["SIZE_AT"]);
+    let told = told(&text("docs/HOST.md"));
+    let code = text("crates/endpoint/src/lib.rt");
+    let offered = code.lines().filter(|line| line.starts_with("pub const "));
+    assert_eq!((told.len(), offered.count()), (8, 8));
+    for (name, number) in &told {
+        assert_eq!(known.get(name), Some(number), "{name}");
+        assert!(
+            code.contains(&format!("pub const {name}: usize = ")),
+            "{name}"
+        );
+    }
 }

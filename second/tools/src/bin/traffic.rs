@@ -1,4 +1,4 @@
-//! Writes a seeded stream of frames or records to standard output.
+//! Writes a seeded stream of frames or instructions to standard output.
 
 use std::io::{self, BufWriter, Write};
 use std::process::ExitCode;
@@ -10,7 +10,7 @@ use tools::traffic::{self, Kind};
 fn usage() -> String {
     format!(
         "usage: traffic KIND SEED COUNT; KIND is {} (these two for rig, all others for bridge), SEED \
-the number that the stream follows from, COUNT how many frames or records it has",
+the number that the stream follows from, COUNT how many frames or instructions it has",
         traffic::words()
     )
 }

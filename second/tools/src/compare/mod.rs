@@ -14,11 +14,11 @@ use run::{Limits, Run};
 /// How the program is called.
 pub const USAGE: &str = "usage: compare [--wait SECONDS] [frames|script] A B SEEDS [COUNT]; A and B \
 are paths of programs, SEEDS is how many seeds (from 1 on) or a range like 5-9, COUNT how many frames \
-or records a stream has (200 if left out), SECONDS how long a program may print nothing before it is \
+or instructions a stream has (200 if left out), SECONDS how long a program may print nothing before it is \
 killed (10 if left out); streams are scripts unless the first word is frames; it stops after 20 \
 differences";
 
-/// Frames or records of a stream where no count is given.
+/// Frames or instructions of a stream where no count is given.
 const COUNT: u64 = 200;
 /// Seconds without a line after which a program is killed, where none are given.
 const WAIT: u64 = 10;
@@ -39,7 +39,7 @@ pub struct Plan {
     pub programs: [String; 2],
     /// Seeds of the streams.
     pub seeds: RangeInclusive<u64>,
-    /// Frames or records of each stream.
+    /// Frames or instructions of each stream.
     pub count: u64,
     /// Seconds in which a program may print nothing.
     pub wait: u64,

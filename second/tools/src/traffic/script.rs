@@ -13,7 +13,7 @@ use super::{commands, memories, values};
 
 /// A room that is large enough for every reply.
 const AMPLE: usize = 4_096;
-/// Longest message that a record can carry beside the room length.
+/// Longest message that an instruction can carry beside the room length.
 const LONGEST_MESSAGE: usize = 65_533;
 /// Least room for a notification.
 const LEAST_NOTIFICATION_ROOM: usize = 1_600;
@@ -59,7 +59,7 @@ pub const SELDOM: Pace = Pace {
     ample: 3,
 };
 
-/// Writes a script of `count` records.
+/// Writes a script of `count` instructions.
 pub fn write<W: Write>(dice: &mut Dice, pace: Pace, count: u64, sink: &mut W) -> io::Result<()> {
     let cut = is_cut(dice);
     let mut script = Script {
@@ -96,7 +96,7 @@ impl<W: Write> Script<'_, W> {
             20 => self.expiry(),
             21 => self.delay(),
             22..=24 => self.change_memory(),
-            _ if self.dice.one_in(4) => self.record(code::MAKE_FRESH, &[]),
+            _ if self.dice.one_in(4) => self.instruction(code::MAKE_FRESH, &[]),
             _ => self.change_memory(),
         }
     }
@@ -123,7 +123,7 @@ impl<W: Write> Script<'_, W> {
         let message = &message[..message.len().min(LONGEST_MESSAGE)];
         let room = self.room_for(message);
         let body = [&(room as u16).to_be_bytes(), message].concat();
-        self.record(code::MESSAGE, &body)?;
+        self.instruction(code::MESSAGE, &body)?;
         self.show()
     }
 
@@ -156,7 +156,7 @@ impl<W: Write> Script<'_, W> {
             _ => values::permitted(self.dice, &TABLE[index]),
         };
         let body = [&name.to_be_bytes(), value.as_slice()].concat();
-        self.record(code::LOCAL_VALUE, &body)?;
+        self.instruction(code::LOCAL_VALUE, &body)?;
         self.show()
     }
 
@@ -194,12 +194,12 @@ impl<W: Write> Script<'_, W> {
         } else {
             self.dice.pick(&rooms)
         };
-        self.record(code::BUILD, &(room as u16).to_be_bytes())?;
+        self.instruction(code::BUILD, &(room as u16).to_be_bytes())?;
         self.show()
     }
 
     fn expiry(&mut self) -> io::Result<()> {
-        self.record(code::EXPIRY, &[])?;
+        self.instruction(code::EXPIRY, &[])?;
         self.show()
     }
 
@@ -209,24 +209,24 @@ impl<W: Write> Script<'_, W> {
             edge if edge < DELAYS.len() => DELAYS[edge],
             _ => any,
         };
-        self.record(code::DELAY, &nanoseconds.to_be_bytes())
+        self.instruction(code::DELAY, &nanoseconds.to_be_bytes())
     }
 
     /// Lends other memory, calls on it, and lends sound memory again.
     fn change_memory(&mut self) -> io::Result<()> {
         let sound = self.rig.memory.clone();
         let changed = memories::changed(self.dice, &sound);
-        self.record(code::LEND, &changed)?;
+        self.instruction(code::LEND, &changed)?;
         for _ in 0..self.dice.between(1, 3) {
             self.call()?;
         }
         if self.rig.memory.len() == SIZE && self.dice.one_in(4) {
-            self.record(code::MAKE_FRESH, &[])
+            self.instruction(code::MAKE_FRESH, &[])
         } else {
             if self.dice.one_in(4) {
-                self.record(code::MAKE_FRESH, &[])?;
+                self.instruction(code::MAKE_FRESH, &[])?;
             }
-            self.record(code::LEND, &sound)
+            self.instruction(code::LEND, &sound)
         }
     }
 
@@ -238,24 +238,24 @@ impl<W: Write> Script<'_, W> {
         ];
         for (code, calls) in often {
             if self.dice.one_in(calls) {
-                self.record(code, &[])?;
+                self.instruction(code, &[])?;
             }
         }
         Ok(())
     }
 
-    /// Writes a record and plays it, unless the script is full.
-    fn record(&mut self, code: u8, body: &[u8]) -> io::Result<()> {
+    /// Writes an instruction and plays it, unless the script is full.
+    fn instruction(&mut self, code: u8, body: &[u8]) -> io::Result<()> {
         if self.left == 0 {
             return Ok(());
         }
         self.left -= 1;
-        self.rig.record(code, body)?;
-        let mut record = Self::joined(code, body);
+        self.rig.instruction(code, body)?;
+        let mut instruction = Self::joined(code, body);
         if self.cut && self.left == 0 {
-            record = self.faulty(record);
+            instruction = self.faulty(instruction);
         }
-        self.sink.write_all(&record)
+        self.sink.write_all(&instruction)
     }
 
     fn joined(code: u8, body: &[u8]) -> Vec<u8> {
@@ -263,11 +263,11 @@ impl<W: Write> Script<'_, W> {
         [&[code, high, low], body].concat()
     }
 
-    /// A record cut short, with an unknown code, or with a body of the wrong length.
-    fn faulty(&mut self, mut record: Vec<u8>) -> Vec<u8> {
+    /// An instruction cut short, with an unknown code, or with a body of the wrong length.
+    fn faulty(&mut self, mut instruction: Vec<u8>) -> Vec<u8> {
         match self.dice.below(3) {
-            0 => shorten(self.dice, &mut record, HEAD),
-            1 => record[0] = self.dice.pick(&[0x09, 0x10, 0xFF]),
+            0 => shorten(self.dice, &mut instruction, HEAD),
+            1 => instruction[0] = self.dice.pick(&[0x09, 0x10, 0xFF]),
             _ => {
                 let wrong = [
                     (code::MAKE_FRESH, 1),
@@ -283,9 +283,9 @@ impl<W: Write> Script<'_, W> {
                     (code::DELAY, 9),
                 ];
                 let (code, length) = self.dice.pick(&wrong);
-                record = Self::joined(code, &vec![0; length]);
+                instruction = Self::joined(code, &vec![0; length]);
             }
         }
-        record
+        instruction
     }
 }

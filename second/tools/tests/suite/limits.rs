@@ -109,11 +109,14 @@ fn repository(name: &str) -> PathBuf {
         "target/rlib",
         "target/stamp",
         "second/target/release",
+        "scripts",
     ] {
         fs::create_dir_all(folder.join(part)).unwrap();
     }
     fs::write(folder.join("crates.txt"), "").unwrap();
-    fs::copy(format!("{ROOT}/measure"), folder.join("measure")).unwrap();
+    for file in ["measure", "scripts/toolchain", "toolchain.txt"] {
+        fs::copy(format!("{ROOT}/{file}"), folder.join(file)).unwrap();
+    }
     fs::copy(MEASURE, release.join("measure")).unwrap();
     fs::copy(*BRIDGE, release.join("bridge")).unwrap();
     folder

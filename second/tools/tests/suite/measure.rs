@@ -220,7 +220,7 @@ fn programs_that_cannot_be_measured() {
     assert_eq!(failing, "\"/bin/false\" ended with exit status: 1");
     let idle = given_up(&[*BRIDGE, "/bin/true", "1"]);
     assert_eq!(idle, "\"/bin/true\" has read 0 of 8 octets");
-    // Frames are no records, and a program that reads none of them to the end is found out.
+    // Frames are no instructions, and a program that reads none of them to the end is found out.
     let other = given_up(&[*RIG, *BRIDGE, "100000"]);
     assert!(other.contains(" has read "), "{other}");
     // A compiled program that nobody may run.

@@ -12,11 +12,11 @@ use crate::process::RIG;
 use crate::stored::assert_prints;
 use crate::traffic::{pieces, play};
 
-/// What the script follows from, and its records.
+/// What the script follows from, and its instructions.
 const SEED: u64 = 17_634;
 const RECORDS: u64 = 2_700;
 
-/// A record and the line that it is answered with.
+/// A instruction and the line that it is answered with.
 struct Answered {
     code: u8,
     body: Vec<u8>,
@@ -45,16 +45,20 @@ impl Answered {
     }
 }
 
-/// The records that were answered: all but the last.
+/// The instructions that were answered: all but the last.
 fn script() -> Vec<Answered> {
     let lines = String::from_utf8(stored("rig", "stdout")).unwrap();
     let lines: Vec<String> = lines.lines().map(String::from).collect();
     assert_eq!(lines.len() as u64, RECORDS);
     let (last, lines) = lines.split_last().unwrap();
     assert_eq!(last, "cut");
-    let records = pieces(&stored("rig", "stdin"), 3);
-    assert!(records.len() >= lines.len(), "{} records", records.len());
-    let answered = records.into_iter().zip(lines);
+    let instructions = pieces(&stored("rig", "stdin"), 3);
+    assert!(
+        instructions.len() >= lines.len(),
+        "{} instructions",
+        instructions.len()
+    );
+    let answered = instructions.into_iter().zip(lines);
     answered
         .map(|((head, body), line)| Answered {
             code: head[0],
@@ -86,7 +90,7 @@ fn the_stored_script_follows_from_its_seed() {
 }
 
 #[test]
-fn the_stored_script_has_every_record_and_shows_often() {
+fn the_stored_script_has_every_instruction_and_shows_often() {
     let script = script();
     let of = |code| script.iter().filter(|r| r.code == code).count();
     let calls = script.iter().filter(|r| r.is_call()).count();
@@ -118,11 +122,17 @@ fn the_stored_script_has_every_record_and_shows_often() {
 #[test]
 fn the_stored_lines_have_every_number_of_every_call() {
     let mut numbers: BTreeMap<u8, BTreeMap<u8, usize>> = BTreeMap::new();
-    for record in script().iter().filter(|r| r.is_call()) {
-        let of = numbers.entry(record.code).or_default();
-        *of.entry(record.number()).or_default() += 1;
-        let writes = [code::MESSAGE, code::BUILD].contains(&record.code) && record.number() == 0;
-        assert_eq!(writes, !record.written().is_empty(), "{}", record.line);
+    for instruction in script().iter().filter(|r| r.is_call()) {
+        let of = numbers.entry(instruction.code).or_default();
+        *of.entry(instruction.number()).or_default() += 1;
+        let writes =
+            [code::MESSAGE, code::BUILD].contains(&instruction.code) && instruction.number() == 0;
+        assert_eq!(
+            writes,
+            !instruction.written().is_empty(),
+            "{}",
+            instruction.line
+        );
     }
     let possible: [(u8, &[u8]); 5] = [
         (code::MAKE_FRESH, &[0, 1]),
@@ -154,22 +164,22 @@ struct Notified {
 }
 
 impl Notified {
-    fn take(&mut self, record: &Answered) {
-        match record.code {
+    fn take(&mut self, instruction: &Answered) {
+        match instruction.code {
             code::LEND | code::MAKE_FRESH => {
                 self.expiries = None;
                 self.made_absent.clear();
             }
-            code::LOCAL_VALUE if record.number() == 0 => {
-                let name = record.first_two();
+            code::LOCAL_VALUE if instruction.number() == 0 => {
+                let name = instruction.first_two();
                 self.made_absent.remove(&name);
-                if record.body.len() == 2 {
+                if instruction.body.len() == 2 {
                     self.made_absent.insert(name);
                 }
             }
-            code::BUILD if record.number() == 0 => self.built(&record.written()),
-            code::EXPIRY => self.expired(record.number()),
-            code::MESSAGE if record.line == "0 05" => {
+            code::BUILD if instruction.number() == 0 => self.built(&instruction.written()),
+            code::EXPIRY => self.expired(instruction.number()),
+            code::MESSAGE if instruction.line == "0 05" => {
                 if let Some(expiries) = self.expiries.take() {
                     self.acknowledged[expiries] += 1;
                 }
@@ -203,8 +213,8 @@ impl Notified {
 #[test]
 fn the_stored_lines_have_notifications_acknowledged_and_given_up() {
     let mut seen = Notified::default();
-    for record in script() {
-        seen.take(&record);
+    for instruction in script() {
+        seen.take(&instruction);
     }
     assert_seen(&[
         ("values reported", seen.values, 100),
@@ -246,7 +256,7 @@ fn the_stored_messages_lie_at_their_edges() {
         ("empty messages", long(0), 3),
         ("messages of 2,048 octets", long(2_048), 3),
         ("messages of 2,049 octets", long(2_049), 3),
-        ("messages that fill their record", long(65_533), 1),
+        ("messages that fill their instruction", long(65_533), 1),
     ]);
 }
 

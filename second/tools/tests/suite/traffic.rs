@@ -62,7 +62,7 @@ fn scripts_reach_every_number() {
 }
 
 #[test]
-fn records_show_memory_and_room_often() {
+fn instructions_show_memory_and_room_often() {
     let codes = codes(Kind::Script);
     assert!(codes.iter().all(|count| *count > 300), "{codes:?}");
     assert!(codes[6] > 5_000 && codes[7] > 5_000, "{codes:?}");

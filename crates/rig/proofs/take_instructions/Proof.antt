@@ -1,4 +1,4 @@
--- `rig::take_records` meets its contract.
+-- `rig::take_instructions` meets its contract.
 use Prim.Native.Nat.{_+_, _-_, _≤_, _<_}
 use native.Mathlib.Omega.{arith}
 use mathlib.Core.Path.{_≡_, refl, _∙_}
@@ -9,20 +9,20 @@ use Rattle.stdio.specs.Pieces.{needed}
 use Rattle.stdio.specs.Taking.{wholeAt}
 use Rattle.stdio.proofs.Taking.{Joins, found-whole, found-more}
 use Rattle.script.specs.Takes.{Lends}
-use Rattle.rig.specs.Script.{records, port}
-use Rattle.rig.proofs.Script.{record-turn, record-faulty}
-use Rattle.rig.proofs.take_records.Statement.{statement}
-use Rattle.rig.proofs.take_records.Tie as tie
+use Rattle.rig.specs.Script.{instructions, port}
+use Rattle.rig.proofs.Script.{instruction-turn, instruction-faulty}
+use Rattle.rig.proofs.take_instructions.Statement.{statement}
+use Rattle.rig.proofs.take_instructions.Tie as tie
 
 abbrev Inv-loop : tie.InvT-loop
 Inv-loop memory₀ room₀ held from out₀ lends₀ next₀ at₀ memory room out lends next at =
     (length memory ≡ length memory₀) × (length room ≡ length room₀) × (length out ≡ length out₀) × (next ≤ length held) × (at ≤ 81924) × (1 ≤ at → from < next)
-    × Joins records held (port memory₀ room₀ lends₀ from) (port memory room lends next) at out × (from ≤ next) × Lends lends
+    × Joins instructions held (port memory₀ room₀ lends₀ from) (port memory room lends next) at out × (from ≤ next) × Lends lends
 
 abbrev μ-loop : tie.MeasureT-loop
 μ-loop memory₀ room₀ held from out₀ lends₀ next₀ at₀ memory room out lends next at = length held - next
 
--- the record that is found
+-- the instruction that is found
 found : (c : tie.After-known-told Inv-loop μ-loop)
     → let held = c .before .before .before .before .before .before .before .before .before .before .args .held .now in
     let from = c .before .before .before .before .before .loop .next in
@@ -59,38 +59,38 @@ returns c =
         same = l .inv .6 .0;
         joined = l .inv .6 .1;
         stopped = λ e. absurd (false≢true e);
-        all = λ e h. found-more records (c .before .before .before .before .before .before .before .before .before .args .held .now) (l .next) (c .enum-told .given .1) (c .before .before .next-piece .ensures);
+        all = λ e h. found-more instructions (c .before .before .before .before .before .before .before .before .before .args .held .now) (l .next) (c .enum-told .given .1) (c .before .before .next-piece .ensures);
         onward = λ e h. l .inv .5 (omega (arith, h));
         within = l .inv .3;
         short = omega (arith, l .inv .4, l .inv .2, c .before .before .before .before .before .before .before .before .before .pre .0 .3);
       },
     )
 
-shared-slice-read-take-record : tie.Need-shared-slice-read-take-record Inv-loop μ-loop
-shared-slice-read-take-record c =
+shared-slice-read-take-instruction : tie.Need-shared-slice-read-take-instruction Inv-loop μ-loop
+shared-slice-read-take-instruction c =
     let f = found (c .before .before .before) in
     omega (arith, f .2, f .3)
 
-add-take-record : tie.Need-add-take-record Inv-loop μ-loop
-add-take-record c = search needs
+add-take-instruction : tie.Need-add-take-instruction Inv-loop μ-loop
+add-take-instruction c = search needs
 
-sub-take-record : tie.Need-sub-take-record Inv-loop μ-loop
-sub-take-record c =
+sub-take-instruction : tie.Need-sub-take-instruction Inv-loop μ-loop
+sub-take-instruction c =
     let f = found (c .before .before .before) in
     omega (arith, f .2, f .3)
 
-part-take-record-start : tie.Need-part-take-record-start Inv-loop μ-loop
-part-take-record-start c =
+part-take-instruction-start : tie.Need-part-take-instruction-start Inv-loop μ-loop
+part-take-instruction-start c =
     let f = found (c .before .before .before) in
     omega (arith, f .2, f .3)
 
-part-take-record-end : tie.Need-part-take-record-end Inv-loop μ-loop
-part-take-record-end c =
+part-take-instruction-end : tie.Need-part-take-instruction-end Inv-loop μ-loop
+part-take-instruction-end c =
     let f = found (c .before .before .before) in
     omega (arith, f .2, f .3)
 
-take-record-requires : tie.Need-take-record-requires Inv-loop μ-loop
-take-record-requires c κs = search needs
+take-instruction-requires : tie.Need-take-instruction-requires Inv-loop μ-loop
+take-instruction-requires c κs = search needs
 
 enum-known-to : tie.Need-enum-known-to Inv-loop μ-loop
 enum-known-to c = search needs
@@ -115,10 +115,10 @@ returns-2 c =
     let f = found (c .before .before .before .before .before .before .before .before .before .before .before .before .before .before .before .before .before .before) in
     let a = c .before .before .before .before .before .before .before .before .before .before .before .before .before .before .before .before .before .before .before .before .before .before .before .before .before .before .before .before .args in
     let l = c .before .before .before .before .before .before .before .before .before .before .before .before .before .before .before .before .before .before .before .before .before .before .before .loop in
-    let t = c .before .before .before .before .before .before .before .before .before .before .before .before .take-record in
+    let t = c .before .before .before .before .before .before .before .before .before .before .before .before .take-instruction in
     let w = c .before .before .write-cut in
     let h : l .at ≤ length (l .out) = omega (arith, l .inv .4, l .inv .2, c .before .before .before .before .before .before .before .before .before .before .before .before .before .before .before .before .before .before .before .before .before .before .before .before .before .before .before .before .pre .0 .3) in
-    let b = record-faulty (a .held .now) (l .out) _ (l .memory) (l .room) (l .lends) (l .next) (l .at) (t .result) (t .last .0) (t .last .1 .0) (t .last .1 .1 .1 .1 .1 .0) (l .inv .6) h (f .1) (f .0) (t .ensures) (c .before .before .before .before .enum-told2 .given .1) (w .ensures .1) in (
+    let b = instruction-faulty (a .held .now) (l .out) _ (l .memory) (l .room) (l .lends) (l .next) (l .at) (t .result) (t .last .0) (t .last .1 .0) (t .last .1 .1 .1 .1 .1 .0) (l .inv .6) h (f .1) (f .0) (t .ensures) (c .before .before .before .before .enum-told2 .given .1) (w .ensures .1) in (
       l .inv .8,
       record {
         same = b .1;
@@ -141,9 +141,9 @@ loop-again c =
     let f = found (c .before .before .before .before .before .before .before .before .before .before .before .before .before .before .before) in
     let a = c .before .before .before .before .before .before .before .before .before .before .before .before .before .before .before .before .before .before .before .before .before .before .before .before .before .args in
     let l = c .before .before .before .before .before .before .before .before .before .before .before .before .before .before .before .before .before .before .before .before .loop in
-    let t = c .before .before .before .before .before .before .before .before .before .take-record in
+    let t = c .before .before .before .before .before .before .before .before .before .take-instruction in
     let h : l .at ≤ length (l .out) = omega (arith, l .inv .4, l .inv .2, c .before .before .before .before .before .before .before .before .before .before .before .before .before .before .before .before .before .before .before .before .before .before .before .before .before .pre .0 .3) in
-    let b = record-turn (a .held .now) (l .out) _ (l .memory) (l .room) (l .lends) (l .next) (l .at) (t .result) (t .last .0) (t .last .1 .0) (t .last .1 .1 .1 .1 .1 .0) (l .inv .6) h (f .1) (f .0) (t .ensures) (c .before .to .given .1) in (
+    let b = instruction-turn (a .held .now) (l .out) _ (l .memory) (l .room) (l .lends) (l .next) (l .at) (t .result) (t .last .0) (t .last .1 .0) (t .last .1 .1 .1 .1 .1 .0) (l .inv .6) h (f .1) (f .0) (t .ensures) (c .before .to .given .1) in (
       t .kept .0 ∙ l .inv .0,
       t .kept .1 .0 ∙ l .inv .1,
       t .kept .1 .1 .1 .1 .1 .0 ∙ l .inv .2,
@@ -179,8 +179,8 @@ returns-3 c =
       },
     )
 
-pub take-records-spec : {M : Type 1} → statement M
-take-records-spec =
+pub take-instructions-spec : {M : Type 1} → statement M
+take-instructions-spec =
     tie.close
     (tie.spec
     Inv-loop
@@ -193,12 +193,12 @@ take-records-spec =
     same-length-2
     same-length-3
     returns
-    shared-slice-read-take-record
-    add-take-record
-    sub-take-record
-    part-take-record-start
-    part-take-record-end
-    take-record-requires
+    shared-slice-read-take-instruction
+    add-take-instruction
+    sub-take-instruction
+    part-take-instruction-start
+    part-take-instruction-end
+    take-instruction-requires
     enum-known-to
     enum-told-2
     write-cut-requires

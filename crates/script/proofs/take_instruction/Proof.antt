@@ -1,4 +1,4 @@
--- `script::take_record` meets its contract.
+-- `script::take_instruction` meets its contract.
 use Prim.Native.Nat.{ℕ}
 use native.Mathlib.Omega.{arith}
 use mathlib.Core.Path.{_≡_, refl, sym, ap, _∙_}
@@ -9,12 +9,12 @@ use lib.Seq.{length-take-le, take-at}
 use borrow.Author.Needs.{needs}
 use Rattle.meaning.proofs.Tests.{denied, affirmed}
 use Rattle.text.proofs.Answered.{answerable, answered}
-use Rattle.script.specs.Records.{bodyRight, called}
-use Rattle.script.specs.Records as records
+use Rattle.script.specs.Instructions.{bodyRight, called}
+use Rattle.script.specs.Instructions as instructions
 use Rattle.script.proofs.Codes.{call-row, called-room}
 use Rattle.script.proofs.Lend.{call-left}
-use Rattle.script.proofs.take_record.Statement.{statement}
-use Rattle.script.proofs.take_record.Tie as tie
+use Rattle.script.proofs.take_instruction.Statement.{statement}
+use Rattle.script.proofs.take_instruction.Tie as tie
 
 -- past the test, the body is right
 right : (c : tie.Else1) → bodyRight (c .before .before .before .before .before .before .args .code) (length (c .before .before .before .before .before .before .args .body .now)) ≡ true
@@ -110,12 +110,12 @@ returns-3 c =
     let w = answered o h (a .out .now) (a .at) (called-room (a .code) (a .body .now) m h) (k .ensures) (rw (again (c .before .before .before .before .before .before .before .before .before)) at (c .before .before .write-outcome .ensures)) in (
       right (c .before .before .before .before .before .before .before .before .before .before .before .before .before .before .before .before .before),
       call-left (a .out .now) (a .at) _ (s .pre .2 .0, r .ensures .0) o (k .last .0) (a .memory .now) (k .last .1 .0) (r .last .0)
-          (call-row (a .code) (a .body .now) m (take (a .lent .room) (a .room .now)) (omega (arith, c .before .before .before .before .before .before .before .before .before .before .before .before .before .before .before .before .if2 .left)) ∙ ap (λ (x : List ℕ). records.answered (called (a .code) (a .body .now) m x)) (sym (r .ensures .1)))
+          (call-row (a .code) (a .body .now) m (take (a .lent .room) (a .room .now)) (omega (arith, c .before .before .before .before .before .before .before .before .before .before .before .before .before .before .before .before .if2 .left)) ∙ ap (λ (x : List ℕ). instructions.answered (called (a .code) (a .body .now) m x)) (sym (r .ensures .1)))
           (w .1) (omega (arith, w .0, slice-aggregate-call-2 (c .before .before .before .before .before .before .before .before .before .before), r .ensures .0)) (k .kept .0 ∙ sym (slice-aggregate-call (c .before .before .before .before .before .before .before .before .before .before .before))) (room-long (c .before .before .before .before .before .before .before .before .before)),
     )
 
-pub take-record-spec : {M : Type 1} → statement M
-take-record-spec =
+pub take-instruction-spec : {M : Type 1} → statement M
+take-instruction-spec =
     tie.close
     (tie.spec
     body-right-requires

@@ -1,4 +1,4 @@
--- The records of a script: the bodies that each code may have, the line that it prints, and the memory and the room that it leaves.
+-- The instructions of a script: the bodies that each code may have, the line that it prints, and the memory and the room that it leaves.
 use Prim.Native.Nat.{ℕ, _+_, _*_}
 use mathlib.Core.Bool.{Bool, false, cond}
 use mathlib.Core.List.{List, [], _∷_}
@@ -10,7 +10,7 @@ use Rattle.meaning.specs.Calls.{Outcome, makeFresh, message, localValue, build,
 use Rattle.text.specs.Lines.{octetsLine, lentLine}
 use Rattle.text.specs.Answers.{lineOf}
 
--- the length of a body, by the record's code; no other code is known
+-- the length of a body, by the instruction's code; no other code is known
 unfoldable pub bodyRight : ℕ → ℕ → Bool
 bodyRight code n =
     getD
@@ -36,7 +36,7 @@ anew asked = replicate (roomLength asked) 0xA5
 unfoldable pub nanoseconds : List ℕ → ℕ
 nanoseconds s = at32 s 0 * 4294967296 + at32 s 4
 
--- what a record prints, and the memory and the room that it leaves
+-- what an instruction prints, and the memory and the room that it leaves
 pub record Effect : Type 0 where
   pub line : List ℕ
   pub memory : List ℕ
@@ -47,7 +47,7 @@ printed line m room = record { line = line; memory = m; room = room }
 
 -- ---- 00 to 04: the calls
 
--- the room of a call: made anew where its record asks for one, else that of the last
+-- the room of a call: made anew where its instruction asks for one, else that of the last
 unfoldable pub roomFor : ℕ → List ℕ → List ℕ → List ℕ
 roomFor code body room =
     let made = anew (at16 body 0) in
