@@ -60,9 +60,11 @@ module _ {code n : ℕ} (r : bodyRight code n ≡ true) where
   unfolding bodyRight
   local-body e = leb-true 2 n (rw e at r)
 
-  pub build-body : code ≡ 3 → n ≡ 2
+  -- an instruction that asks for a room says how long
+  pub room-body : (code ≡ 1) ⊎ (code ≡ 3) → 2 ≤ n
   unfolding bodyRight
-  build-body e = eqb-true n 2 (rw e at r)
+  room-body (inl e) = leb-true 2 n (rw e at r)
+  room-body (inr e) = omega (arith, eqb-true n 2 (rw e at r))
 
   pub lend-body : code ≡ 5 → n ≤ 2200
   unfolding bodyRight
@@ -108,13 +110,13 @@ unfolding roomFor
 room-made code body room (inl e) = rw e
 room-made code body room (inr e) = rw e
 
-pub room-last : (code : ℕ) (body room : List ℕ) → (code ≡ 1 → ⊥) → (code ≡ 3 → ⊥) → roomFor code body room ≡ room
+pub room-last : (code : ℕ) (body room : List ℕ) → ((code ≡ 1) ⊎ (code ≡ 3) → ⊥) → roomFor code body room ≡ room
 unfolding roomFor
-room-last zero body room f g = refl
-room-last (suc zero) body room f g = absurd (f refl)
-room-last (suc (suc zero)) body room f g = refl
-room-last (suc (suc (suc zero))) body room f g = absurd (g refl)
-room-last (suc (suc (suc (suc n)))) body room f g = refl
+room-last zero body room f = refl
+room-last (suc zero) body room f = absurd (f (inl refl))
+room-last (suc (suc zero)) body room f = refl
+room-last (suc (suc (suc zero))) body room f = absurd (f (inr refl))
+room-last (suc (suc (suc (suc n)))) body room f = refl
 
 module _ {code : ℕ} (body m room : List ℕ) where
   pub fresh-called : code ≡ 0 → called code body m room ≡ alone (makeFresh m) room

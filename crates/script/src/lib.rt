@@ -76,12 +76,11 @@ fn make_room(room: &mut [u8], asked: usize) -> usize
 
 // The room that a call is lent: made anew where its instruction asks for one, else that of the last; its length.
 fn room_for(room: &mut [u8], last: usize, code: u8, body: &[u8]) -> usize
-    requires { ⌜ (length (now room) ≡ 8192) × (last ≤ 8192) × (bodyRight code (length (now body)) ≡ true) × (code < 5) ⌝ }
+    requires { ⌜ (length (now room) ≡ 8192) × (last ≤ 8192) × (bodyRight code (length (now body)) ≡ true) ⌝ }
     ensures { λ r. ⌜ (r ≤ 8192) × (take r (now (room .exit)) ≡ roomFor code (now (body .entry)) (take last (now (room .entry)))) ⌝ }
 {
     match code {
-        1 => make_room(room, octets::get16(body, 0)),
-        3 => make_room(room, octets::get16(body, 0)),
+        1 | 3 => make_room(room, octets::get16(body, 0)),
         _ => last,
     }
 }

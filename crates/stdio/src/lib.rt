@@ -107,8 +107,8 @@ fn write_out_cut(name: &[u8]) {
     write_out(&line, name);
 }
 
-// Where the input goes on: octets are held from the front up to a place. Else it is over: it has ended, where a piece was
-// begun with `cut`, or it could not be read.
+// Where the input goes on: octets are held from the front up to a place. Else it is over: it has ended, and `cut` has been
+// written if a piece was begun; or it could not be read, which has been said.
 pub enum Input {
     Held(usize),
     Over,

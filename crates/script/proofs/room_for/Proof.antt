@@ -1,25 +1,17 @@
 -- `script::room_for` meets its contract.
-use native.Mathlib.Omega.{arith}
 use mathlib.Core.Path.{sym, ap, _∙_}
-use mathlib.Core.Logic.{inl, inr}
 use lib.ListN.{take}
 use borrow.Author.Needs.{needs}
 use Rattle.script.specs.Instructions.{anew}
-use Rattle.script.proofs.Codes.{message-body, build-body, room-made, room-last}
+use Rattle.script.proofs.Codes.{room-body, room-made, room-last}
 use Rattle.script.proofs.room_for.Statement.{statement}
 use Rattle.script.proofs.room_for.Tie as tie
 
 get16-requires : tie.Need-get16-requires
-get16-requires c κs = message-body (c .before .before .before .before .pre .2) (c .before .match .keys1)
+get16-requires c κs = room-body (c .before .before .before .before .pre .2) (c .before .match .keys1)
 
 make-room-requires : tie.Need-make-room-requires
 make-room-requires c κs = search needs
-
-get16-requires-2 : tie.Need-get16-requires-2
-get16-requires-2 c κs = omega (arith, build-body (c .before .before .before .before .pre .2) (c .before .match .keys2))
-
-make-room-requires-2 : tie.Need-make-room-requires-2
-make-room-requires-2 c κs = search needs
 
 same-length : tie.Need-same-length
 same-length c = search needs
@@ -27,33 +19,18 @@ same-length c = search needs
 returns : tie.Need-returns
 returns c =
     let a = c .before .before .before .before .before .before .before .before .args in
-    let r = c .before .before .make-room .ensures in
-    (r .0, r .1 ∙ ap anew (c .before .before .before .get16 .ensures .0) ∙ sym (room-made (a .code) (a .body .now) (take (a .last) (a .room .now)) (inl (c .before .before .before .before .before .match .keys1))))
-
-same-length-2 : tie.Need-same-length-2
-same-length-2 c = search needs
+    let r = c .before .before .make-room .ensures in (
+      r .0,
+      r .1 ∙ ap anew (c .before .before .before .get16 .ensures .0)
+          ∙ sym (room-made (a .code) (a .body .now) (take (a .last) (a .room .now)) (c .before .before .before .before .before .match .keys1)),
+    )
 
 returns-2 : tie.Need-returns-2
 returns-2 c =
-    let a = c .before .before .before .before .before .before .before .before .args in
-    let r = c .before .before .make-room2 .ensures in
-    (r .0, r .1 ∙ ap anew (c .before .before .before .get162 .ensures .0) ∙ sym (room-made (a .code) (a .body .now) (take (a .last) (a .room .now)) (inr (c .before .before .before .before .before .match .keys2))))
-
-returns-3 : tie.Need-returns-3
-returns-3 c =
-    let a = c .before .before .before .args in
-    (c .before .before .before .pre .1, sym (room-last (a .code) (a .body .now) (take (a .last) (a .room .now)) (c .match .rest .0 .1) (c .match .rest .1)))
+    let a = c .before .before .before .args in (
+      c .before .before .before .pre .1,
+      sym (room-last (a .code) (a .body .now) (take (a .last) (a .room .now)) (c .match .rest .1)),
+    )
 
 pub room-for-spec : {M : Type 1} → statement M
-room-for-spec =
-    tie.close
-    (tie.spec
-    get16-requires
-    make-room-requires
-    get16-requires-2
-    make-room-requires-2
-    same-length
-    returns
-    same-length-2
-    returns-2
-    returns-3)
+room-for-spec = tie.close (tie.spec get16-requires make-room-requires same-length returns returns-2)

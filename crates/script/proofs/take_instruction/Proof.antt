@@ -54,7 +54,7 @@ returns-2 : tie.Need-returns-2
 returns-2 c = search needs
 
 room-for-requires : tie.Need-room-for-requires
-room-for-requires c κs = (c .before .before .before .before .before .before .before .before .pre .1, c .before .before .before .before .before .before .before .before .pre .2 .1, right (c .before .before), omega arith)
+room-for-requires c κs = (c .before .before .before .before .before .before .before .before .pre .1, c .before .before .before .before .before .before .before .before .pre .2 .1, right (c .before .before))
 
 slice-relend-prefix-call : tie.Need-slice-relend-prefix-call
 slice-relend-prefix-call c = search needs

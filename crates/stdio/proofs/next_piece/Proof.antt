@@ -9,10 +9,10 @@ use Rattle.stdio.proofs.next_piece.Statement.{statement}
 use Rattle.stdio.proofs.next_piece.Tie as tie
 
 -- the length is that of the head's last two octets
-told : (c : tie.After-get16)
+size-read : (c : tie.After-get16)
     → let a = c .before .before .before .args in
     c .get16 .result ≡ at16 (a .held .now) (a .from + a .head - 2)
-told c = c .get16 .ensures .0
+size-read c = c .get16 .ensures .0
 
 sub-left : tie.Need-sub-left
 sub-left c = search needs
@@ -39,7 +39,7 @@ returns-2 : tie.Need-returns-2
 returns-2 c =
     let s = c .before .before .before .before in
     let e = needed-all (s .args .held .now) (s .args .from) (s .args .head) (omega arith) in
-    (rw e (omega (arith, told (c .before))), omega arith)
+    (rw e (omega (arith, size-read (c .before))), omega arith)
 
 add-t9 : tie.Need-add-t9
 add-t9 c = search needs
@@ -48,7 +48,7 @@ returns-3 : tie.Need-returns-3
 returns-3 c =
     let s = c .before .before .before .before in
     let e = needed-all (s .args .held .now) (s .args .from) (s .args .head) (omega arith) in
-    (rw e (omega (arith, told (c .before))), omega arith, omega arith)
+    (rw e (omega (arith, size-read (c .before))), omega arith, omega arith)
 
 pub next-piece-spec : {M : Type 1} → statement M
 next-piece-spec =
