@@ -1,16 +1,16 @@
--- A instruction taken in the program is one piece taken, and a faulty one is the last; what is known of the rest.
+-- An instruction taken in the program is one piece taken, and a faulty one is the last; what is known of the rest.
 use Prim.Native.Nat.{ℕ, _+_, _-_, _≤_, _<_}
 use native.Mathlib.Omega.{arith}
-use mathlib.Core.Path.{_≡_, subst}
+use mathlib.Core.Path.{_≡_, ap, subst}
 use mathlib.Core.Bool.{true}
 use mathlib.Core.List.{List, [], _++_}
 use lib.ListN.{length, take, drop}
-use borrow.Author.Tests.{eq-eqb}
 use Rattle.meaning.specs.Octets.{octet}
+use Rattle.meaning.specs.Table.{memoryLength}
 use Rattle.meaning.specs.Memory.{fresh}
-use Rattle.meaning.specs.Checks.{firstFailed, whenPassed}
-use Rattle.meaning.specs.Calls.{call, makeFresh}
+use Rattle.meaning.specs.Calls.{Outcome, makeFresh}
 use Rattle.octets.specs.Writing.{Wrote}
+use Rattle.endpoint.proofs.Exits.{fresh-does}
 use Rattle.stdio.specs.Pieces.{needed, cutLine}
 use Rattle.stdio.specs.Taking.{Piece, Between, pieceAt, wholeAt, goesOn, lineAt, next, taken, lines, Faulty}
 use Rattle.stdio.proofs.Taking.{Joins, turn, cut-off, cut-out}
@@ -51,6 +51,5 @@ rest held p memory room {from} {lends} e f =
     (g .1, omega (arith, g .2 .1), g .3)
 
 -- memory of the right length made fresh
-pub made-fresh : (m : List ℕ) → length m ≡ 2100 → makeFresh m .memory ≡ fresh
-unfolding makeFresh call whenPassed firstFailed
-made-fresh m h = simp (eq-eqb _ _ h)
+pub made-fresh : (m : List ℕ) → length m ≡ memoryLength → makeFresh m .memory ≡ fresh
+made-fresh m h = ap (λ (o : Outcome). o .memory) (fresh-does m h)

@@ -99,13 +99,17 @@ fn declares(line: &str, name: &str, proof: bool) -> bool {
 }
 
 /// Whether a file declares a name, or one in a folder does or is called so, as edits are. A definition
-/// may stand with the laws.
+/// may stand with the laws, and an edit with those that the gate leaves out.
 fn stands(name: &str, path: &str) -> bool {
     let name = name.rsplit("::").next().unwrap();
     let path = format!("{ROOT}/{path}");
     let folder = Path::new(&path).is_dir();
     let files: Vec<PathBuf> = match fs::read_dir(&path) {
-        Ok(entries) => entries.map(|e| e.unwrap().path()).collect(),
+        Ok(entries) => {
+            let left_out = fs::read_dir(path.replace("/must-fail", "/tried"));
+            let entries = entries.chain(left_out.into_iter().flatten());
+            entries.map(|e| e.unwrap().path()).collect()
+        }
         Err(_) => vec![path.replace("/specs/", "/proofs/").into(), path.into()],
     };
     files.iter().any(|file| {

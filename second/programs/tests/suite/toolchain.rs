@@ -356,6 +356,24 @@ fn another_processor_than_x86_64_wants_the_emulator() {
 }
 
 #[test]
+fn all_edits_are_tried_if_they_are_asked_for() {
+    let place = Place::fresh();
+    for edit in ["low/must-fail/a", "low/tried/b", "mid/tried/c"] {
+        let file = place.root().join("crates").join(edit);
+        fs::create_dir_all(file.parent().unwrap()).unwrap();
+        fs::write(file.with_extension("edit"), "").unwrap();
+    }
+    let last = "3 passed, 0 failed\n";
+    place.assert_shell("./check", 0, last, "");
+    let others = "crates/low/must-fail/b.edit\ncrates/mid/must-fail/c.edit\n";
+    place.assert_shell("./check --all", 0, &format!("{last}{others}"), "");
+    for words in ["--al", "--all --all", "-h"] {
+        let usage = "check: usage: ./check [--all]\n";
+        place.assert_shell(&format!("./check {words}"), 2, "", usage);
+    }
+}
+
+#[test]
 fn another_toolchain_is_told() {
     let place = Place::built();
     let pinned = fs::read_to_string(place.kit("version")).unwrap();

@@ -16,7 +16,7 @@ use crate::traffic::{pieces, play};
 const SEED: u64 = 17_634;
 const RECORDS: u64 = 2_700;
 
-/// A instruction and the line that it is answered with.
+/// An instruction and the line that it is answered with.
 struct Answered {
     code: u8,
     body: Vec<u8>,
