@@ -1,12 +1,15 @@
--- The table and the memory, octet by octet: who sets each name, the bits of the flags, fresh memory.
+-- The table and the memory, octet by octet: who sets each name, how long all names are, the bits of the flags, fresh memory.
 use Prim.Native.Nat.{ℕ, _+_, _*_, _/_, _%_}
 use native.Mathlib.Omega.{arith}
 use mathlib.Core.Path.{_≡_, refl}
 use mathlib.Core.List.{List, [], _∷_, _++_, map}
 use lib.Dec.{eqb}
-use Rattle.meaning.specs.Octets.{octet, zeros}
+use lib.ListN.{length}
+use Rattle.meaning.specs.Octets.{octet, zeros, flat, be16}
 use Rattle.meaning.specs.Table.{Row, controller, port, nobody, rows}
+use Rattle.meaning.specs.Wire.{namesLength}
 use Rattle.meaning.specs.Memory.{cell, isPresent, isSubscribed, isPending, present, subscribed, pending, fresh}
+use Rattle.meaning.specs.Reply.{allNames}
 use Rattle.meaning.proofs.All.{all}
 use Rattle.meaning.proofs.Lists.{part-octet}
 
@@ -16,6 +19,11 @@ pub setters : map (λ (r : Row). r .owner) rows
     ≡ port ∷ controller ∷ controller ∷ controller ∷ controller ∷ controller ∷ port ∷ nobody ∷ controller ∷ controller ∷ controller ∷ controller ∷ controller ∷ port ∷ port ∷ port ∷ port ∷ port ∷ controller ∷ []
 unfolding rows
 setters = refl
+
+-- the 19 names, two octets each
+pub names-length : length allNames ≡ namesLength
+unfolding allNames rows flat be16
+names-length = refl
 
 -- ---- the flags' bits
 
