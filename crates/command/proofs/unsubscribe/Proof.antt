@@ -1,6 +1,5 @@
 -- `command::unsubscribe` meets its contract.
 use borrow.Author.Needs.{needs}
-use Rattle.meaning.specs.Memory.{setMarks}
 use Rattle.command.proofs.Sets.{unsubscribe-listed, unsubscribe-unlisted}
 use Rattle.command.proofs.unsubscribe.Statement.{statement}
 use Rattle.command.proofs.unsubscribe.Tie as tie
