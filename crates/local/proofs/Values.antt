@@ -15,7 +15,7 @@ use Rattle.meaning.specs.Table.{place, listed, rowAt, byPort, entryCount}
 use Rattle.meaning.specs.Block.{permits}
 use Rattle.meaning.specs.Memory.{subscribed, pending, body, flags, put}
 use Rattle.meaning.specs.Calls.{localPermitted, differs, localMemory}
-use Rattle.meaning.proofs.Kept.{permits-length}
+use Rattle.meaning.proofs.Values.{permits-opened}
 use Rattle.meaning.proofs.Tests.{same-true, every-at}
 
 -- ---- the same octets
@@ -73,7 +73,7 @@ permitted-place n v e = (ltb-true _ _ (every-at _ 0 e), go v (every-at _ 2 e))
   where
     go : (w : List ℕ) → (not (nonempty w) || permits (rowAt (place n)) w) ≡ true → length w ≤ rowAt (place n) .most
     go [] t = omega arith
-    go (x ∷ w) t = permits-length _ _ t .1
+    go (x ∷ w) t = permits-opened _ _ t .1
 
 nonempty-long : (v : List ℕ) → ltb 0 (length v) ≡ nonempty v
 nonempty-long [] = refl

@@ -7,18 +7,18 @@ use mathlib.Core.Logic.{_↔_}
 use mathlib.Core.Bool.{true}
 use mathlib.Core.List.{List, [], _∷_, _++_, append-assoc}
 use lib.ListN.{length, take, length-append}
-use lib.Dec.{eqb, leb}
+use lib.Dec.{eqb, leb, ltb}
 use lib.Seq.{take-at, drop-at, take-length}
 use borrow.Author.Tests.{leb-true, ltb-true, eqb-true, le-leb, lt-ltb, eq-eqb}
-use Rattle.meaning.specs.Octets.{octet, at32, be16, part, every, same}
+use Rattle.meaning.specs.Octets.{be16, part, every, same}
 use Rattle.meaning.specs.Table.{rowAt, rows, adminBaseTime, adminControlListLength, adminControlList, adminCycleTime, entryCount}
-use Rattle.meaning.specs.Block.{asNumber, timeOk, entriesOf, interval, entryOk, eachOk, listOk, intervals, ratioOk, cycle, sums, joinedBlock, baseOf, countOf, listOf, ratioOf, formAndFit, permits}
+use Rattle.meaning.specs.Block.{asNumber, timeOk, entriesOf, listOk, intervals, ratioOk, cycle, sums, joinedBlock, baseOf, countOf, listOf, ratioOf, formAndFit, permits}
 use Rattle.meaning.specs.Memory.{present, body, fourPresent}
 use Rattle.meaning.specs.Step.{block, commits}
-use Rattle.meaning.proofs.Lists.{Each}
-use Rattle.meaning.proofs.Tests.{and-left, and-right, and-both, every-at, same-refl}
+use Rattle.meaning.proofs.Tests.{every-at, same-refl}
+use Rattle.meaning.proofs.Values.{fourAt, four-octets, number-four, sumOver, EntryAt, intervals-spelt, ListRule, list-spelt, cycle-spelt, permits-opened}
 use Rattle.meaning.proofs.Sound.{Sound, entry-of, four-at}
-use Rattle.meaning.proofs.Kept.{permits-length, committing}
+use Rattle.meaning.proofs.Kept.{committing}
 use Rattle.meaning.proofs.Sums.{total, totals, first-sum, second-sum}
 
 -- ---- a block's four values
@@ -77,16 +77,10 @@ module _ (m : List ℕ) (S : Sound m) (k : ℕ) (hk : k < entryCount) (p : prese
 
   body-fixed : (n : ℕ) → rowAt k .least ≡ n → rowAt k .most ≡ n → length (body m k) ≡ n
   body-fixed n a b =
-      let h = permits-length (rowAt k) (body m k) body-permitted in
+      let h = permits-opened (rowAt k) (body m k) body-permitted in
       omega arith
 
 -- ---- the conditions
-
--- a list entry (RULES 4.22 to 4.25)
-pub record EntryRule (e : List ℕ) : Type 0 where
-  pub operation : octet e 0 ≤ 2
-  pub five : octet e 1 ≡ 5
-  pub nonzero : 1 ≤ interval e
 
 pub record Commits (m v : List ℕ) : Type 0 where
   pub basePresent : present m adminBaseTime ≡ true
@@ -94,34 +88,15 @@ pub record Commits (m v : List ℕ) : Type 0 where
   pub listPresent : present m adminControlList ≡ true
   pub ratioPresent : present m adminCycleTime ≡ true
   pub fourOctets : length v ≡ 4
-  pub nanoseconds : at32 (body m adminBaseTime) 6 < 1000000000
+  pub nanoseconds : fourAt (body m adminBaseTime) 6 < 1000000000
   pub sevens : length (body m adminControlList) % 7 ≡ 0
-  pub entries : Each EntryRule (entriesOf (body m adminControlList))
-  pub holdsCount : asNumber (body m adminControlListLength) ≡ length (body m adminControlList) / 7
+  pub entries : (i : ℕ) → i < length (body m adminControlList) / 7 → EntryAt (body m adminControlList) (7 * i)
+  pub holdsCount : fourAt (body m adminControlListLength) 0 ≡ length (body m adminControlList) / 7
   pub atLeastOne : 1 ≤ length (body m adminControlList) / 7
   pub atMost : length (body m adminControlList) / 7 ≤ 64
-  pub denominator : 1 ≤ at32 (body m adminCycleTime) 4
-  pub fit : intervals (entriesOf (body m adminControlList)) ≤ at32 (body m adminCycleTime) 0 * 1000000000 / at32 (body m adminCycleTime) 4
+  pub denominator : 1 ≤ fourAt (body m adminCycleTime) 4
+  pub fit : sumOver (length (body m adminControlList) / 7) (λ i. fourAt (body m adminControlList) (7 * i + 3)) ≤ fourAt (body m adminCycleTime) 0 * 1000000000 / fourAt (body m adminCycleTime) 4
   pub sumsAgree : v ≡ be16 (total (block m) % 65536) ++ be16 (totals 0 (block m) % 65536)
-
-entry-rule : (e : List ℕ) → entryOk e ≡ true → EntryRule e
-unfolding entryOk
-entry-rule e h =
-    record { operation = leb-true _ _ (every-at _ 0 h); five = eqb-true _ _ (every-at _ 1 h); nonzero = leb-true _ _ (every-at _ 2 h) }
-
-rule-entry : (e : List ℕ) → EntryRule e → entryOk e ≡ true
-unfolding entryOk every
-rule-entry e r = simp (le-leb _ _ (r .operation), eq-eqb _ _ (r .five), le-leb _ _ (r .nonzero))
-
-each-rule : (es : List (List ℕ)) → eachOk es ≡ true → Each EntryRule es
-unfolding eachOk
-each-rule [] h = tt
-each-rule (e ∷ es) h = (entry-rule e (and-left _ _ h), each-rule es (and-right (entryOk e) _ h))
-
-rule-each : (es : List (List ℕ)) → Each EntryRule es → eachOk es ≡ true
-unfolding eachOk
-rule-each [] h = refl
-rule-each (e ∷ es) h = and-both (rule-entry e (h .0)) (rule-each es (h .1))
 
 sums-plain-value : (s : List ℕ) → sums s ≡ be16 (total s % 65536) ++ be16 (totals 0 s % 65536)
 unfolding sums
@@ -144,30 +119,31 @@ module _ (m v : List ℕ) (S : Sound m) where
   block-form : fourPresent m ≡ true → formAndFit (block m)
       ≡ every
       (leb 22 (22 + length list)
-      ∷ timeOk base
-      ∷ leb (asNumber count) 64
+      ∷ ltb (fourAt base 6) 1000000000
+      ∷ leb (fourAt count 0) 64
       ∷ listOk list
-      ∷ ratioOk ratio′
-      ∷ eqb (asNumber count) (length list / 7)
+      ∷ leb 1 (fourAt ratio′ 4)
+      ∷ eqb (fourAt count 0) (length list / 7)
       ∷ leb 1 (length list / 7)
-      ∷ leb (intervals (entriesOf list)) (cycle ratio′)
+      ∷ leb (sumOver (length list / 7) (λ i. fourAt list (7 * i + 3))) (fourAt ratio′ 0 * 1000000000 / fourAt ratio′ 4)
       ∷ [])
-  unfolding block rowAt rows
+  unfolding block rowAt rows timeOk ratioOk entriesOf
   block-form f =
+      let c : length count ≡ 4 = body-fixed m S adminControlListLength (omega arith) (four-at m 1 f) 4 refl refl in
       form-joined base count list ratio′
       (body-fixed m S adminBaseTime (omega arith) (four-at m 0 f) 10 refl refl)
-      (body-fixed m S adminControlListLength (omega arith) (four-at m 1 f) 4 refl refl)
+      c
       (body-fixed m S adminCycleTime (omega arith) (four-at m 3 f) 8 refl refl)
+      ∙ rw (four-octets base 6, number-four count c, four-octets ratio′ 4, intervals-spelt (length list / 7) list, cycle-spelt ratio′)
 
   pub commits-spelt : commits m v ≡ true → Commits m v
-  unfolding timeOk listOk ratioOk cycle
   commits-spelt e =
       let t = committing m v e in
       let f = t .four in
       let g = sym (block-form f) ∙ t .form in
-      let n : asNumber count ≡ length list / 7 = eqb-true _ _ (every-at _ 5 g) in
-      let k : asNumber count ≤ 64 = leb-true _ _ (every-at _ 2 g) in
-      let w : listOk list ≡ true = every-at _ 3 g in
+      let n : fourAt count 0 ≡ length list / 7 = eqb-true _ _ (every-at _ 5 g) in
+      let k : fourAt count 0 ≤ 64 = leb-true _ _ (every-at _ 2 g) in
+      let w : ListRule list = list-spelt list .0 (every-at _ 3 g) in
       record {
         basePresent = four-at m 0 f;
         countPresent = four-at m 1 f;
@@ -175,8 +151,8 @@ module _ (m v : List ℕ) (S : Sound m) where
         ratioPresent = four-at m 3 f;
         fourOctets = t .fourOctets;
         nanoseconds = ltb-true _ _ (every-at _ 1 g);
-        sevens = eqb-true _ _ (and-left _ _ w);
-        entries = each-rule (entriesOf list) (and-right (eqb (length list % 7) 0) _ w);
+        sevens = w .sevens;
+        entries = w .entries;
         holdsCount = n;
         atLeastOne = leb-true _ _ (every-at _ 6 g);
         atMost = omega arith;
@@ -186,15 +162,14 @@ module _ (m v : List ℕ) (S : Sound m) where
       }
 
   spelt-form : fourPresent m ≡ true → Commits m v → formAndFit (block m) ≡ true
-  unfolding every timeOk listOk ratioOk cycle
+  unfolding every
   spelt-form f c =
       block-form f
       ∙ simp (
         le-leb 22 (22 + length list) (omega arith),
         lt-ltb _ _ (c .nanoseconds),
-        le-leb (asNumber count) 64 (omega (arith, c .holdsCount, c .atMost)),
-        eq-eqb _ _ (c .sevens),
-        rule-each (entriesOf list) (c .entries),
+        le-leb (fourAt count 0) 64 (omega (arith, c .holdsCount, c .atMost)),
+        list-spelt list .1 (record { sevens = c .sevens; entries = c .entries }),
         le-leb _ _ (c .denominator),
         eq-eqb _ _ (c .holdsCount),
         le-leb _ _ (c .atLeastOne),

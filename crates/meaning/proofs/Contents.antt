@@ -1,17 +1,23 @@
--- The table and the memory, octet by octet: who sets each name, how long all names are, the bits of the flags, fresh memory.
+-- The table and the memory, octet by octet: who sets each name, how long all names are, where each room starts, the bits of the flags, fresh memory
+-- and that making fresh gives it.
 use Prim.Native.Nat.{ℕ, _+_, _*_, _/_, _%_}
 use native.Mathlib.Omega.{arith}
-use mathlib.Core.Path.{_≡_, refl}
+use mathlib.Core.Path.{_≡_, refl, ap, _∙_}
 use mathlib.Core.List.{List, [], _∷_, _++_, map}
 use lib.Dec.{eqb}
 use lib.ListN.{length}
+use borrow.Author.Tests.{eq-eqb}
 use Rattle.meaning.specs.Octets.{octet, zeros, flat, be16}
-use Rattle.meaning.specs.Table.{Row, controller, port, nobody, rows}
+use Rattle.meaning.specs.Checks.{passed, check}
+use Rattle.meaning.specs.Table.{Row, controller, port, nobody, rows, rooms, roomAt}
 use Rattle.meaning.specs.Wire.{namesLength}
 use Rattle.meaning.specs.Memory.{cell, isPresent, isSubscribed, isPending, present, subscribed, pending, fresh}
 use Rattle.meaning.specs.Reply.{allNames}
+use Rattle.meaning.specs.Calls.{numberOnly, makeFresh}
 use Rattle.meaning.proofs.All.{all}
 use Rattle.meaning.proofs.Lists.{part-octet}
+use Rattle.meaning.proofs.Tests.{all-passing}
+use Rattle.meaning.proofs.Checked.{call-done}
 
 -- ---- who sets each name, in table order
 
@@ -24,6 +30,12 @@ setters = refl
 pub names-length : length allNames ≡ namesLength
 unfolding allNames rows flat be16
 names-length = refl
+
+-- where the room of each name starts (RULES 3.10)
+pub rooms-spelt : map roomAt (0 ∷ 1 ∷ 2 ∷ 3 ∷ 4 ∷ 5 ∷ 6 ∷ 7 ∷ 8 ∷ 9 ∷ 10 ∷ 11 ∷ 12 ∷ 13 ∷ 14 ∷ 15 ∷ 16 ∷ 17 ∷ 18 ∷ [])
+    ≡ 116 ∷ 124 ∷ 125 ∷ 135 ∷ 139 ∷ 587 ∷ 595 ∷ 599 ∷ 603 ∷ 604 ∷ 605 ∷ 860 ∷ 861 ∷ 1116 ∷ 1117 ∷ 1372 ∷ 1373 ∷ 1628 ∷ 1630 ∷ []
+unfolding roomAt rooms rows
+rooms-spelt = refl
 
 -- ---- the flags' bits
 
@@ -59,6 +71,16 @@ contents =
     ∷ 0x80 ∷ 0x01 ∷ 0 ∷ 0 ∷ 0 ∷ 0
     ∷ []
 
-pub fresh-spelt : fresh ≡ contents ++ (0 ∷ 0 ∷ zeros 8 ++ (0 ∷ zeros 474 ++ (0 ∷ 0 ∷ 0 ∷ 0x40 ∷ zeros 1497)))
+abbrev pub freshOctets : List ℕ
+freshOctets = contents ++ (0 ∷ 0 ∷ zeros 8 ++ (0 ∷ zeros 474 ++ (0 ∷ 0 ∷ 0 ∷ 0x40 ∷ zeros 1497)))
+
+pub fresh-spelt : fresh ≡ freshOctets
 unfolding all contents
 fresh-spelt = refl
+
+-- from any memory of this length, sound or not (RULES 6.4)
+pub makeFresh-gives : (m : List ℕ) → length m ≡ 2100 → makeFresh m ≡ numberOnly 0 freshOctets []
+unfolding makeFresh
+makeFresh-gives m h =
+    call-done _ (numberOnly 0 fresh []) m [] (all-passing (check 1 (eqb (length m) 2100) passed) (eq-eqb _ _ h, tt))
+    ∙ ap (λ (f : List ℕ). numberOnly 0 f []) fresh-spelt

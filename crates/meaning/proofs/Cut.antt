@@ -1,11 +1,12 @@
 -- Law 5, the cut law: a command that is carried out may be cut into any number of non-empty commands sent in order. Each is
--- carried out, the final memory is the same to the octet, and the records of each kind are those of the partial replies joined.
+-- carried out, the final memory is the same to the octet, and the records of each kind are those of the partial replies joined. So it is in one
+-- room, as demand 3 has it, and in a room of its own for each part, if none is shorter than the whole reply.
 use Prim.Native.Nat.{ℕ, _+_, _≤_, _<_}
 use native.Mathlib.Omega.{arith}
 use mathlib.Core.Path.{_≡_, refl, sym, ap, ap₂, _∙_, subst}
 use mathlib.Core.Bool.{true}
 use mathlib.Core.Option.{some}
-use mathlib.Core.List.{List, [], _∷_, _++_}
+use mathlib.Core.List.{List, [], _∷_, _++_, map}
 use lib.ListN.{length, length-append, length-take}
 use lib.Seq.{take-length}
 use Rattle.meaning.specs.Octets.{at16, be16, part, flat}
@@ -17,10 +18,11 @@ use Rattle.meaning.specs.Calls.{Outcome, done, isCommand, lengthField, o
 use Rattle.meaning.proofs.Lists.{Each, Octets, each-append, each-left, each-right, octets-part, flat-append}
 use Rattle.meaning.proofs.Kept.{after-sound}
 use Rattle.meaning.proofs.Encode.{encode, encode-some, Fine, parse-encoded, parse-spelt, parse-nil}
-use Rattle.meaning.proofs.Records.{Fits, fits-left, fits-right, after-append, records-append}
+use Rattle.meaning.proofs.Records.{Fits, fits-left, fits-right, fits-in, after-append, records-append}
 use Rattle.meaning.proofs.Decode.{decode, decode-complete}
 use Rattle.meaning.proofs.Answered.{Answered, answered, records-good}
-use Rattle.meaning.proofs.Accepted.{Accepted, some-of, ops-parsed, accepted-call, carried-accepted, done-room}
+use Rattle.meaning.proofs.Accepted.{Accepted, some-of, ops-parsed, accepted-call, carried-accepted}
+use Rattle.meaning.proofs.Refused.{message-room}
 
 -- ---- the statement
 
@@ -36,10 +38,27 @@ pub record Part (p : List ℕ) : Type 0 where
 abbrev pub joinedParts : List (List ℕ) → List ℕ
 joinedParts ps = flat (λ p. p) ps
 
--- the calls that send the parts in order, each into the memory and the room that the one before it left
-unfoldable pub sends : List ℕ → List ℕ → List (List ℕ) → List Outcome
-sends m room [] = []
-sends m room (p ∷ ps) = message m (commandOf p) room ∷ sends (message m (commandOf p) room .memory) (message m (commandOf p) room .room) ps
+-- a part and the room that it is sent with
+pub record Sent : Type 0 where
+  pub octets : List ℕ
+  pub room : List ℕ
+
+abbrev pub sent : List ℕ → List ℕ → Sent
+sent p room = record { octets = p; room = room }
+
+abbrev pub partsOf : List Sent → List (List ℕ)
+partsOf xs = map (λ (x : Sent). x .octets) xs
+
+-- the calls that send the parts in order, each into the memory that the one before it left
+unfoldable pub sendsWith : List ℕ → List Sent → List Outcome
+sendsWith m [] = []
+sendsWith m (x ∷ xs) =
+    message m (commandOf (x .octets)) (x .room) ∷ sendsWith (message m (commandOf (x .octets)) (x .room) .memory) xs
+
+-- the parts with one room: each with the room that the call before it left
+unfoldable pub inOneRoom : List ℕ → List ℕ → List (List ℕ) → List Sent
+inOneRoom m room [] = []
+inOneRoom m room (p ∷ ps) = sent p room ∷ inOneRoom (message m (commandOf p) room .memory) (message m (commandOf p) room .room) ps
 
 -- the memory after some calls
 unfoldable pub lastMemory : List ℕ → List Outcome → List ℕ
@@ -56,10 +75,10 @@ pub record CarriedOut (o : Outcome) : Type 0 where
   pub number : o .number ≡ 0
   pub reply : o .written ≡ complete (decode (o .written))
 
-pub record Cut (m room : List ℕ) (parts : List (List ℕ)) (memory : List ℕ) (rs : Records) : Type 0 where
-  pub eachCarriedOut : Each CarriedOut (sends m room parts)
-  pub sameMemory : lastMemory m (sends m room parts) ≡ memory
-  pub sameRecords : joinedReplies (sends m room parts) ≡ rs
+pub record Cut (m : List ℕ) (calls : List Outcome) (memory : List ℕ) (rs : Records) : Type 0 where
+  pub eachCarriedOut : Each CarriedOut calls
+  pub sameMemory : lastMemory m calls ≡ memory
+  pub sameRecords : joinedReplies calls ≡ rs
 
 -- ---- octets of operations
 
@@ -129,26 +148,34 @@ carried m s room os a f =
 
 -- ---- one part more
 
-cut-cons : (p : List ℕ) (ps : List (List ℕ)) (m room mem : List ℕ) (r s : Records) → CarriedOut (message m (commandOf p) room)
-    → decode (message m (commandOf p) room .written) ≡ r → Cut (message m (commandOf p) room .memory) (message m (commandOf p) room .room) ps mem s
-    → Cut m room (p ∷ ps) mem (joined r s)
-unfolding sends lastMemory joinedReplies
-cut-cons p ps m room mem r s n q c =
+cut-cons : (x : Sent) (xs : List Sent) (m mem : List ℕ) (r s : Records) → CarriedOut (message m (commandOf (x .octets)) (x .room))
+    → decode (message m (commandOf (x .octets)) (x .room) .written) ≡ r
+    → Cut (message m (commandOf (x .octets)) (x .room) .memory) (sendsWith (message m (commandOf (x .octets)) (x .room) .memory) xs) mem s
+    → Cut m (sendsWith m (x ∷ xs)) mem (joined r s)
+unfolding sendsWith lastMemory joinedReplies
+cut-cons x xs m mem r s n q c =
     record { eachCarriedOut = (n, c .eachCarriedOut); sameMemory = c .sameMemory; sameRecords = ap₂ joined q (c .sameRecords) }
 
-abbrev Law : List (List ℕ) → Type 0
-Law parts =
-    (m room : List ℕ)
-    → sound m ≡ true
-    → Each Part parts
-    → Octets (joinedParts parts)
-    → 3 + length (joinedParts parts) ≤ 2048
-    → Fits (length room) (records m (opsInAll parts))
-    → Cut m room parts (after m (opsInAll parts)) (records m (opsInAll parts))
+-- each room has n octets at least
+abbrev pub Roomy : ℕ → List Sent → Type 0
+Roomy n xs = Each (λ x. n ≤ length (x .room)) xs
 
-cut-more : (p : List ℕ) (ps : List (List ℕ)) → Law ps → Law (p ∷ ps)
+abbrev Law : List Sent → Type 0
+Law xs =
+    (m : List ℕ) (n : ℕ)
+    → sound m ≡ true
+    → Each Part (partsOf xs)
+    → Octets (joinedParts (partsOf xs))
+    → 3 + length (joinedParts (partsOf xs)) ≤ 2048
+    → Roomy n xs
+    → Fits n (records m (opsInAll (partsOf xs)))
+    → Cut m (sendsWith m xs) (after m (opsInAll (partsOf xs))) (records m (opsInAll (partsOf xs)))
+
+cut-more : (x : Sent) (xs : List Sent) → Law xs → Law (x ∷ xs)
 unfolding opsInAll flat
-cut-more p ps law m room s hs o long fit =
+cut-more x xs law m n s hs o long roomy fit =
+    let p = x .octets in
+    let ps = partsOf xs in
     let a = opsIn p in
     let b = opsInAll ps in
     let q = joinedParts ps in
@@ -158,22 +185,33 @@ cut-more p ps law m room s hs o long fit =
     let r1 : Records = records m a in
     let r2 : Records = records m1 b in
     let e : records m (a ++ b) ≡ joined r1 r2 = records-append m a b in
-    let fit2 : Fits (length room) (joined r1 r2) = rw e at fit in
-    let fit1 : Fits (length room) r1 = fits-left (length room) r1 r2 fit2 in
+    let fit2 : Fits n (joined r1 r2) = rw e at fit in
+    let left : Fits n r1 = fits-left n r1 r2 fit2 in
+    let fit1 : Fits (length (x .room)) r1 = fits-in n (length (x .room)) r1 (omega (arith, left .inRoom, roomy .0)) left in
     let l : length (p ++ q) ≡ length p + length q = length-append p q in
-    let c : Accepted m (commandOf p) (length room) a = part-accepted m (length room) p s (hs .0) (omega arith) fit1 in
-    let d : message m (commandOf p) room ≡ done (complete r1) m1 room = accepted-call m (commandOf p) room a c in
-    let z = carried m (commandOf p) room a c fine in
-    let room1 : List ℕ = done (complete r1) m1 room .room in
-    let k : length room1 ≡ length room = done-room (complete r1) m1 room (fit1 .inRoom) in
-    let ih : Cut m1 room1 ps (after m1 b) r2 =
-    law m1 room1 (after-sound m a s) (hs .1) (each-right (λ x. x < 256) p q o) (omega arith) (rw k (fits-right (length room) r1 r2 fit2)) in
-    rw (e, after-append m a b) (cut-cons p ps m room (after m1 b) r1 r2 (z .0) (z .1) (rw d ih))
+    let c : Accepted m (commandOf p) (length (x .room)) a = part-accepted m (length (x .room)) p s (hs .0) (omega arith) fit1 in
+    let d : message m (commandOf p) (x .room) ≡ done (complete r1) m1 (x .room) = accepted-call m (commandOf p) (x .room) a c in
+    let z = carried m (commandOf p) (x .room) a c fine in
+    let ih : Cut m1 (sendsWith m1 xs) (after m1 b) r2 =
+    law m1 n (after-sound m a s) (hs .1) (each-right (λ x. x < 256) p q o) (omega arith) (roomy .1) (fits-right n r1 r2 fit2) in
+    rw (e, after-append m a b) (cut-cons x xs m (after m1 b) r1 r2 (z .0) (z .1) (rw d ih))
 
-cut-parts : (parts : List (List ℕ)) → Law parts
-unfolding sends lastMemory joinedReplies opsInAll after records answers gathered
-cut-parts [] = λ m room s hs o long fit. record { eachCarriedOut = tt; sameMemory = refl; sameRecords = refl }
-cut-parts (p ∷ ps) = cut-more p ps (cut-parts ps)
+cut-parts : (xs : List Sent) → Law xs
+unfolding sendsWith lastMemory joinedReplies opsInAll after records answers gathered
+cut-parts [] = λ m n s hs o long roomy fit. record { eachCarriedOut = tt; sameMemory = refl; sameRecords = refl }
+cut-parts (x ∷ xs) = cut-more x xs (cut-parts xs)
+
+-- ---- one room: it keeps its length
+
+one-parts : (m room : List ℕ) (ps : List (List ℕ)) → partsOf (inOneRoom m room ps) ≡ ps
+unfolding inOneRoom
+one-parts m room [] = refl
+one-parts m room (p ∷ ps) = ap (λ (l : List (List ℕ)). p ∷ l) (one-parts _ _ ps)
+
+one-roomy : (n : ℕ) (m room : List ℕ) (ps : List (List ℕ)) → n ≤ length room → Roomy n (inOneRoom m room ps)
+unfolding inOneRoom
+one-roomy n m room [] h = tt
+one-roomy n m room (p ∷ ps) h = (h, one-roomy n _ _ ps (rw (message-room m (commandOf p) room .long) h))
 
 -- ---- the law
 
@@ -199,16 +237,28 @@ module _ (m s room : List ℕ) (o : Octets s) (c : isCommand s ≡ true) (n : me
   pub replied-answers : Answered m (opsOf s) (decode (message m s room .written))
   replied-answers = rw replied (answered m (opsOf s))
 
-  pub cut : (parts : List (List ℕ)) → Each Part parts → joinedParts parts ≡ operations s
-      → Cut m room parts (message m s room .memory) (decode (message m s room .written))
+  -- a room for each part, none shorter than the whole reply
+  pub cut-rooms : (xs : List Sent) → Each Part (partsOf xs) → joinedParts (partsOf xs) ≡ operations s → Roomy (length (message m s room .written)) xs
+      → Cut m (sendsWith m xs) (message m s room .memory) (decode (message m s room .written))
   unfolding operations
-  cut parts hs e =
+  cut-rooms xs hs e roomy =
+      let parts = partsOf xs in
       let oc : Octets (joinedParts parts) = rw e (octets-part s 3 (lengthField s) o) in
       let q : opsOf s ≡ opsInAll parts = ops-parsed s (opsInAll parts) (ap parse (sym e) ∙ parts-parsed parts hs oc) in
       let l : length (joinedParts parts) ≤ lengthField s = rw e (operations-length s) in
-      let fit : Fits (length room) (records m (opsInAll parts)) = subst (λ (os : List Op). Fits (length room) (records m os)) q (accepted .fit) in
-      let k = cut-parts parts m room (accepted .isSound) hs oc (omega (arith, accepted .inside, accepted .long)) fit in
-      rw (replied, accepted-call m s room (opsOf s) accepted, q) k
+      let d : message m s room ≡ done (complete (records m (opsOf s))) (after m (opsOf s)) room = accepted-call m s room (opsOf s) accepted in
+      let w : message m s room .written ≡ complete (records m (opsInAll parts)) = ap (λ (o : Outcome). o .written) d ∙ ap (λ (os : List Op). complete (records m os)) q in
+      let whole : Fits (length room) (records m (opsInAll parts)) = subst (λ (os : List Op). Fits (length room) (records m os)) q (accepted .fit) in
+      let fit = fits-in (length room) (length (complete (records m (opsInAll parts)))) (records m (opsInAll parts)) (omega arith) whole in
+      let k = cut-parts xs m (length (complete (records m (opsInAll parts)))) (accepted .isSound) hs oc (omega (arith, accepted .inside, accepted .long)) (rw w at roomy) fit in
+      rw (replied, d, q) k
+
+  -- one room
+  pub cut : (parts : List (List ℕ)) → Each Part parts → joinedParts parts ≡ operations s
+      → Cut m (sendsWith m (inOneRoom m room parts)) (message m s room .memory) (decode (message m s room .written))
+  cut parts hs e =
+      let i = one-parts m room parts in
+      cut-rooms (inOneRoom m room parts) (rw i hs) (rw i e) (one-roomy (length (message m s room .written)) m room parts (message-room m s room .inRoom))
 
 -- ---- the same over operations: any cut of the list of operations is a cut of its octets
 
@@ -243,7 +293,7 @@ spelt-parts (os ∷ oss) n f = (
 
 pub cut-operations : (m s room : List ℕ) → Octets s → isCommand s ≡ true → message m s room .number ≡ 0
     → (oss : List (List Op)) → Each NonEmpty oss → allOps oss ≡ opsOf s
-    → Cut m room (spelt oss) (message m s room .memory) (decode (message m s room .written))
+    → Cut m (sendsWith m (inOneRoom m room (spelt oss))) (message m s room .memory) (decode (message m s room .written))
 unfolding operations
 cut-operations m s room o c n oss h e =
     let a = accepted m s room o c n in

@@ -1,5 +1,5 @@
 -- Law 1: fresh memory is sound, and every call leaves sound memory sound.
-use Prim.Native.Nat.{ℕ, zero, suc, _+_, _-_, _/_, _%_, _≤_, _<_}
+use Prim.Native.Nat.{ℕ, zero, suc, _+_, _-_, _≤_, _<_}
 use native.Mathlib.Omega.{arith}
 use native.Mathlib.Decide.{ℕ-discrete, decLe}
 use mathlib.Core.Path.{_≡_, refl, sym, ap, _∙_}
@@ -8,18 +8,19 @@ use mathlib.Core.Bool.{Bool, true, false, _&&_, _||_, not, cond, false≢true}
 use mathlib.Core.List.{List, [], _∷_}
 use lib.ListN.{length}
 use lib.Dec.{eqb}
-use borrow.Author.Tests.{leb-true, eqb-true, eq-eqb, ne-eqb, le-leb, lt-ltb, le-ltb}
-use Rattle.meaning.specs.Octets.{every, implies, nonempty, part}
+use borrow.Author.Tests.{eqb-true, eq-eqb, ne-eqb, le-leb, lt-ltb, le-ltb}
+use Rattle.meaning.specs.Octets.{every, implies, nonempty}
 use Rattle.meaning.specs.Checks.{firstFailed, whenPassed}
 use Rattle.meaning.specs.Table.{Row, rowAt, rows, byPort, byController, place, listed, entryCount, memoryLength, commit}
-use Rattle.meaning.specs.Block.{sums, permits, keeps, formAndFit, listOf, listOk, countOf, asNumber}
+use Rattle.meaning.specs.Block.{sums, permits, keeps, formAndFit}
 use Rattle.meaning.specs.Memory.{cell, store, setMarks, setTimer, subscribed, pending, isPending, isSubscribed, expiries, fourPresent, timerSound, sound, fresh}
 use Rattle.meaning.specs.Operation.{Op, capabilities, read, set, subscribe, unsubscribe}
 use Rattle.meaning.specs.Step.{block, commits, permitted, setChecks, stored, setMemory, subscribeMemory, unsubscribeMemory, step, after}
 use Rattle.meaning.specs.Calls.{Outcome, numberOnly, call, handled, carriedOut, acknowledged, isCommand, messageChecks, message, opsOf, localPermitted, differs, localMemory, localChecks, localValue, cleared, buildChecks, build, expired, expiryChecks, expiry, makeFresh}
 use Rattle.meaning.proofs.All.{all}
-use Rattle.meaning.proofs.Lists.{length-part}
-use Rattle.meaning.proofs.Tests.{same-true, and-left, every-at, first-passed}
+use Rattle.meaning.proofs.Tests.{same-true, every-at, first-passed}
+use Rattle.meaning.proofs.Values.{permits-opened}
+use Rattle.meaning.proofs.Blocks.{form-spelt}
 use Rattle.meaning.proofs.Places.{listed-place}
 use Rattle.meaning.proofs.Sound.{Sound, opened, entry-of, put-sound, setMarks-sound, setTimer-sound}
 use Rattle.meaning.proofs.Checked.{call-memory, set-either}
@@ -30,24 +31,13 @@ fresh-sound = refl
 
 -- ---- a set
 
-pub permits-length : (r : Row) (v : List ℕ) → permits r v ≡ true → (r .least ≤ length v) × (length v ≤ r .most)
-unfolding permits
-permits-length r v e = (leb-true _ _ (every-at _ 0 e), leb-true _ _ (every-at _ 1 e))
-
 pub permits-most : (r : Row) (v : List ℕ) → permits r v ≡ true → length v ≤ r .most
-permits-most r v e = permits-length r v e .1
+permits-most r v e = permits-opened r v e .1
 
--- the tests of form and fit, by their place in the definition
 pub block-length : (b : List ℕ) → formAndFit b ≡ true → (29 ≤ length b) × (length b ≤ 470)
-unfolding formAndFit listOk listOf
 block-length b e =
-    let long : 22 ≤ length b = leb-true _ _ (every-at _ 0 e) in
-    let l : length (part b 14 (length b - 22)) ≡ length b - 22 = length-part b 14 (length b - 22) (omega arith) in
-    let most : asNumber (countOf b) ≤ 64 = leb-true _ _ (every-at _ 2 e) in
-    let sevens : length (part b 14 (length b - 22)) % 7 ≡ 0 = eqb-true _ _ (and-left _ _ (every-at _ 3 e)) in
-    let count : asNumber (countOf b) ≡ length (part b 14 (length b - 22)) / 7 = eqb-true _ _ (every-at _ 5 e) in
-    let one : 1 ≤ length (part b 14 (length b - 22)) / 7 = leb-true _ _ (every-at _ 6 e) in
-    (omega arith, omega arith)
+    let r = form-spelt b e .1 in
+    (omega (arith, r .long, r .atLeastOne), omega (arith, r .long, r .atMost))
 
 block-permitted : (b : List ℕ) → formAndFit b ≡ true → permits (rowAt commit) b ≡ true
 unfolding permits rowAt rows every keeps

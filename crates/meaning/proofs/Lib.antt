@@ -4,6 +4,8 @@ pub mod Lists
 pub mod Tests
 pub mod Places
 pub mod Contents
+pub mod Values
+pub mod Blocks
 pub mod Sound
 pub mod Spelt
 pub mod Checked
@@ -13,6 +15,7 @@ pub mod Sums
 pub mod Commit
 pub mod Running
 pub mod Stored
+pub mod Given
 pub mod Encode
 pub mod Records
 pub mod Decode
@@ -28,4 +31,6 @@ pub mod Sendings
 pub mod Longest
 pub mod Delays
 pub mod Edges
+pub mod Laid
 pub mod Bench
+pub mod Lives

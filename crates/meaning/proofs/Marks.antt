@@ -1,5 +1,5 @@
 -- What the subscribed and pending marks do: a set (RULES 11.12), subscribe and unsubscribe (RULES 11.21 to 11.24), a local value (RULES 13.5 to 13.9).
-use Prim.Native.Nat.{ℕ, _≤_, _<_}
+use Prim.Native.Nat.{ℕ, zero, suc, _≤_, _<_}
 use native.Mathlib.Omega.{arith}
 use native.Mathlib.Decide.{ℕ-discrete}
 use mathlib.Core.Path.{_≡_, refl, sym, ap, _∙_}
@@ -12,14 +12,15 @@ use borrow.Author.Tests.{leb-true, eqb-true, not-false}
 use Rattle.meaning.specs.Octets.{same, nonempty, below, implies}
 use Rattle.meaning.specs.Checks.{firstFailed}
 use Rattle.meaning.specs.Table.{rowAt, rows, place, listed, byPort, entryCount}
-use Rattle.meaning.specs.Memory.{cell, size, body, flags, put, store, setMarks, present, subscribed, pending, sound}
+use Rattle.meaning.specs.Memory.{cell, room, timer, size, body, flags, put, store, setMarks, present, subscribed, pending, sound}
 use Rattle.meaning.specs.Step.{stored, setChecks, setMemory, subscribeMemory, unsubscribeMemory}
-use Rattle.meaning.specs.Calls.{differs, localMemory}
+use Rattle.meaning.specs.Calls.{differs, localMemory, cleared}
 use Rattle.meaning.proofs.Tests.{same-true, same-refl, implied, below-at}
-use Rattle.meaning.proofs.Places.{listed-place, cell-put-same, cell-put-other}
+use Rattle.meaning.proofs.Values.{permits-opened}
+use Rattle.meaning.proofs.Places.{listed-place, timer-putCell, cell-put-same, cell-put-other}
 use Rattle.meaning.proofs.Checked.{set-either}
-use Rattle.meaning.proofs.Sound.{Sound, opened, entry-of, subscribed-cellOf, pending-cellOf, cell-setMarks-same, cell-setMarks-other}
-use Rattle.meaning.proofs.Kept.{permits-length, permits-most, stored-permitted, settable, Local, local-held}
+use Rattle.meaning.proofs.Sound.{Sound, opened, entry-of, subscribed-cellOf, pending-cellOf, cell-setMarks-same, cell-setMarks-other, room-setMarks, present-setMarks, body-setMarks}
+use Rattle.meaning.proofs.Kept.{permits-most, stored-permitted, settable, Local, local-held, cleared-sound}
 use Rattle.meaning.proofs.Commit.{body-permitted}
 
 -- the marks of the entry at place j
@@ -101,10 +102,49 @@ pub unsubscribe-others : (m : List ℕ) (n : ℕ) → sound m ≡ true → liste
 unfolding unsubscribeMemory
 unsubscribe-others m n s e j ne = rw e (setMarks-marks-other m (place n) false false (opened m s) (listed-place n e) j ne)
 
+-- all but the marks of one entry: presence and value of each, every octet of the others, every room and the timer
+pub record MarksOnly (m : List ℕ) (k : ℕ) (m′ : List ℕ) : Type 0 where
+  pub presences : (j : ℕ) → j < entryCount → present m′ j ≡ present m j
+  pub values : (j : ℕ) → j < entryCount → body m′ j ≡ body m j
+  pub others : (j : ℕ) → j ≢ k → cell m′ j ≡ cell m j
+  pub rooms : (j : ℕ) → j < entryCount → room m′ j ≡ room m j
+  pub sameTimer : timer m′ ≡ timer m
+
+marks-only : (m : List ℕ) (k : ℕ) (s q : Bool) → Sound m → k < entryCount → MarksOnly m k (setMarks m k s q)
+marks-only m k s q S hk =
+    record {
+      presences = present-setMarks m k s q S hk;
+      values = body-setMarks m k s q S hk;
+      others = cell-setMarks-other m k s q S hk;
+      rooms = room-setMarks m k s q S hk;
+      sameTimer = unfold setMarks in timer-putCell m k _ _ (S .long) hk;
+    }
+
+pub subscribe-leaves : (m : List ℕ) (n : ℕ) → sound m ≡ true → listed n ≡ true → MarksOnly m (place n) (subscribeMemory m n)
+unfolding subscribeMemory
+subscribe-leaves m n s e = rw e (marks-only m (place n) true (pending m (place n)) (opened m s) (listed-place n e))
+
+pub unsubscribe-leaves : (m : List ℕ) (n : ℕ) → sound m ≡ true → listed n ≡ true → MarksOnly m (place n) (unsubscribeMemory m n)
+unfolding unsubscribeMemory
+unsubscribe-leaves m n s e = rw e (marks-only m (place n) false false (opened m s) (listed-place n e))
+
 -- nothing for other names (RULES 11.24)
 pub unlisted-nothing : (m : List ℕ) (n : ℕ) → listed n ≡ false → (subscribeMemory m n ≡ m) × (unsubscribeMemory m n ≡ m)
 unfolding subscribeMemory unsubscribeMemory
 unlisted-nothing m n e = (rw e, rw e)
+
+-- ---- pending marks cleared
+
+-- presence and value of every entry as they were
+pub cleared-values : (k : ℕ) (m : List ℕ) → k ≤ entryCount → sound m ≡ true → (j : ℕ) → j < entryCount
+    → (present (cleared k m) j ≡ present m j) × (body (cleared k m) j ≡ body m j)
+unfolding cleared
+cleared-values zero m h s j hj = (refl, refl)
+cleared-values (suc k) m h s j hj =
+    let c = cleared k m in
+    let S = opened c (cleared-sound k m (omega arith) s) in
+    let ih = cleared-values k m (omega arith) s j hj in
+    (present-setMarks c k (subscribed c k) false S (omega arith) j hj ∙ ih .0, body-setMarks c k (subscribed c k) false S (omega arith) j hj ∙ ih .1)
 
 -- ---- a local value: pending if it was, or if the name is subscribed and the value or its presence differs
 
@@ -140,7 +180,7 @@ present-nonempty m k S hk o = go (present m k) refl
 
     go : (b : Bool) → present m k ≡ b → present m k ≡ nonempty (body m k)
     go true p =
-        let h = permits-length (rowAt k) (body m k) (body-permitted m S k hk p) in
+        let h = permits-opened (rowAt k) (body m k) (body-permitted m S k hk p) in
         p ∙ sym (nonempty-some (body m k) (omega (arith, least)))
     go false p = p ∙ sym (ap nonempty (absent-empty m k S hk p))
 

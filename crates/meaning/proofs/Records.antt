@@ -204,3 +204,15 @@ fits-left room r s f = fits-within noRecords r s room f
 
 pub fits-right : (room : ℕ) (r s : Records) → Fits room (joined r s) → Fits room s
 fits-right room r s f = fits-within r s noRecords room (subst (λ (x : Records). Fits room (joined r x)) (sym (joined-none s)) f)
+
+-- another room serves too that the reply fits in
+pub fits-in : (n k : ℕ) (r : Records) → length (complete r) ≤ k → Fits n r → Fits k r
+fits-in n k r h f =
+    record {
+      inRoom = h;
+      inLimit = f .inLimit;
+      values = f .values;
+      readErrors = f .readErrors;
+      updates = f .updates;
+      updateErrors = f .updateErrors;
+    }

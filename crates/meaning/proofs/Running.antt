@@ -1,6 +1,6 @@
 -- Law 4: the running block changes only by a set of 8001 that meets the conditions of RULES 11.14 to 11.17, and becomes the block of
 -- the four values. No other operation and no other call touches it.
-use Prim.Native.Nat.{ℕ, zero, suc, _+_, _≤_, _<_}
+use Prim.Native.Nat.{ℕ, suc, _+_, _≤_, _<_}
 use native.Mathlib.Omega.{arith}
 use native.Mathlib.Decide.{ℕ-discrete}
 use mathlib.Core.Path.{_≡_, refl, sym, ap, _∙_}
@@ -10,19 +10,20 @@ use mathlib.Core.List.{List, [], _∷_, _++_}
 use lib.ListN.{length, getD}
 use lib.Dec.{eqb}
 use borrow.Author.Tests.{eqb-true, eq-eqb}
-use Rattle.meaning.specs.Octets.{nonempty}
+use Rattle.meaning.specs.Octets.{octet, nonempty}
 use Rattle.meaning.specs.Checks.{firstFailed, whenPassed}
 use Rattle.meaning.specs.Table.{Row, nobody, row, rowAt, rows, placeIn, place, listed, byController, byPort, free, entryCount, commit}
 use Rattle.meaning.specs.Block.{permits}
 use Rattle.meaning.specs.Memory.{present, subscribed, pending, body, store, setMarks, setTimer, sound, expiries}
 use Rattle.meaning.specs.Operation.{Op, capabilities, read, set, subscribe, unsubscribe}
 use Rattle.meaning.specs.Step.{block, commits, permitted, setChecks, stored, setMemory, setAnswer, subscribeMemory, unsubscribeMemory, step, answer, update, after}
-use Rattle.meaning.specs.Calls.{opsOf, messageChecks, message, differs, localMemory, localChecks, localValue, cleared, buildChecks, build, expired, expiryChecks, expiry}
+use Rattle.meaning.specs.Calls.{Outcome, done, isCommand, opsOf, carriedOut, acknowledged, handled, messageChecks, message, differs, localMemory, localChecks, localValue, cleared, buildChecks, build, expired, expiryChecks, expiry}
 use Rattle.meaning.proofs.Tests.{first-passed, all-passing}
 use Rattle.meaning.proofs.Places.{listed-place}
-use Rattle.meaning.proofs.Checked.{call-memory, set-stores, set-either}
+use Rattle.meaning.proofs.Checked.{call-either, call-memory, set-stores, set-either}
 use Rattle.meaning.proofs.Sound.{Sound, opened, put-present-same, put-present-other, put-body-same, put-body-other, present-setMarks, body-setMarks, present-setTimer, body-setTimer}
-use Rattle.meaning.proofs.Kept.{permits-most, stored-permitted, Settable, settable, step-sound, cleared-sound, handled-either, Local, local-opened, local-held, commit-not-port, expired-either}
+use Rattle.meaning.proofs.Kept.{permits-most, stored-permitted, Settable, settable, step-sound, cleared-sound, Local, local-opened, local-held, commit-not-port, expired-either}
+use Rattle.meaning.proofs.Marks.{cleared-values}
 use Rattle.meaning.proofs.Commit.{Commits, commits-spelt, spelt-commits}
 
 -- ---- the statement
@@ -189,14 +190,25 @@ running-after m (o ∷ os) s = run-one m o os (step-running m o s) (running-afte
 
 -- ---- the calls
 
--- a message: unless it is a command that is carried out, nothing
-pub message-running : (m s room : List ℕ) → sound m ≡ true
-    → SameRunning m (message m s room .memory) ⊎ ((message m s room .memory ≡ after m (opsOf s)) × RunningBy m (opsOf s))
-unfolding message
+-- a message: nothing, unless it is a command that is carried out: type 01, number 0
+pub record CommandRuns (m s : List ℕ) (o : Outcome) : Type 0 where
+  pub type : octet s 0 ≡ 1
+  pub number : o .number ≡ 0
+  pub memory : o .memory ≡ after m (opsOf s)
+  pub running : RunningBy m (opsOf s)
+
+pub message-running : (m s room : List ℕ) → sound m ≡ true → SameRunning m (message m s room .memory) ⊎ CommandRuns m s (message m s room)
+unfolding message handled carriedOut acknowledged
 message-running m s room h =
-    let P : List ℕ → Type 0 = λ m′. SameRunning m m′ ⊎ ((m′ ≡ after m (opsOf s)) × RunningBy m (opsOf s)) in
-    call-memory P (messageChecks m s (length room)) _ m room (inl (same-running m))
-    (λ e. handled-either P m s (inr (refl, running-after m (opsOf s) h)) (inl (timer-same m 0 0 (opened m h))))
+    call-either (λ o. SameRunning m (o .memory) ⊎ CommandRuns m s o) (messageChecks m s (length room)) _ m room
+    (λ e. go (isCommand s) refl)
+    (λ n e. inl (same-running m))
+  where
+    go : (b : Bool) → isCommand s ≡ b
+        → let d = cond b (carriedOut m (opsOf s)) (acknowledged m) in
+        SameRunning m (d .memory) ⊎ CommandRuns m s (done (d .reply) (d .memory) room)
+    go true c = inr (record { type = unfold isCommand in eqb-true _ _ c; number = refl; memory = refl; running = running-after m (opsOf s) h })
+    go false c = inl (timer-same m 0 0 (opened m h))
 
 local-same : (m : List ℕ) (n : ℕ) (v : List ℕ) → Sound m → Local n v → SameRunning m (localMemory m (place n) v)
 unfolding localMemory
@@ -217,19 +229,17 @@ localValue-running m n v s =
     call-memory (SameRunning m) (localChecks m n v) _ m [] (same-running m)
     (λ e. local-same m n v (opened m s) (local-opened n v (first-passed 11 _ _ (first-passed 0 _ _ e .1) .0)))
 
-cleared-same : (k : ℕ) (m : List ℕ) → k ≤ entryCount → sound m ≡ true → SameRunning m (cleared k m)
-unfolding cleared
-cleared-same zero m h s = same-running m
-cleared-same (suc k) m h s =
-    let c = cleared k m in
-    same-then (cleared-same k m (omega arith) s) (setMarks-same c k (subscribed c k) false (opened c (cleared-sound k m (omega arith) s)) (omega arith))
+cleared-same : (m : List ℕ) → sound m ≡ true → SameRunning m (cleared entryCount m)
+cleared-same m s =
+    let h = cleared-values entryCount m (omega arith) s commit (omega arith) in
+    record { runs = h .0; block = h .1 }
 
 pub build-running : (m room : List ℕ) → sound m ≡ true → SameRunning m (build m room .memory)
 unfolding build
 build-running m room s =
     let c = cleared entryCount m in
     call-memory (SameRunning m) (buildChecks m (length room)) _ m room (same-running m)
-    (λ e. same-then (cleared-same entryCount m (omega arith) s) (timer-same c 1 0 (opened c (cleared-sound entryCount m (omega arith) s))))
+    (λ e. same-then (cleared-same m s) (timer-same c 1 0 (opened c (cleared-sound entryCount m (omega arith) s))))
 
 pub expiry-running : (m : List ℕ) → sound m ≡ true → SameRunning m (expiry m .memory)
 unfolding expiry

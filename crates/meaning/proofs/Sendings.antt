@@ -13,11 +13,11 @@ use Rattle.meaning.specs.Table.{rowAt, place, listed}
 use Rattle.meaning.specs.Memory.{timer, waiting, expiries, cell, size, present, subscribed, pending, flags, store, setMarks, sound, fresh}
 use Rattle.meaning.specs.Operation.{Op, capabilities, read, set, subscribe, unsubscribe}
 use Rattle.meaning.specs.Step.{stored, setMemory, subscribeMemory, unsubscribeMemory, step, after}
-use Rattle.meaning.specs.Calls.{Outcome, numberOnly, call, isCommand, isAcknowledgement, carriedOut, opsOf, messageChecks, message, differs, localMemory, localChecks, localValue, buildChecks, build, expiry, makeFresh}
+use Rattle.meaning.specs.Calls.{Outcome, numberOnly, isCommand, isAcknowledgement, carriedOut, opsOf, messageChecks, message, differs, localMemory, localChecks, localValue, buildChecks, build, expiry, makeFresh}
 use Rattle.meaning.proofs.All.{all}
 use Rattle.meaning.proofs.Tests.{and-left, and-right, denied, first-passed}
 use Rattle.meaning.proofs.Places.{listed-place, timer-putCell, timer-put}
-use Rattle.meaning.proofs.Checked.{call-done, call-memory, call-passed, set-either}
+use Rattle.meaning.proofs.Checked.{call-memory, call-passed, set-either}
 use Rattle.meaning.proofs.Sound.{opened}
 use Rattle.meaning.proofs.Kept.{permits-most, stored-permitted, settable, step-sound, Local, local-opened, local-held, message-sound, localValue-sound, build-sound, expiry-sound}
 use Rattle.meaning.proofs.Accepted.{message-passed, handled-command}
@@ -253,7 +253,7 @@ unfolding build buildChecks
 built-waits m room e =
     let f = call-passed (buildChecks m (length room)) _ m room e in
     let s : sound m ≡ true = first-passed 0 _ _ f .0 in
-    record { isSound = build-sound m room s; timer = rw (call-done (buildChecks m (length room)) _ m room f) (build-leaves m s .timer) }
+    record { isSound = build-sound m room s; timer = build-leaves m room e .timer }
 
 -- calls in two parts
 after-append : (m : List ℕ) (cs ds : List Call) → afterCalls m (cs ++ ds) ≡ afterCalls (afterCalls m cs) ds

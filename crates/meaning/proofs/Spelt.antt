@@ -6,7 +6,7 @@ use mathlib.Core.Logic.{_⊎_, inl, inr}
 use mathlib.Core.Bool.{Bool, true, false, _&&_, cond}
 use mathlib.Core.List.{List, [], _∷_}
 use lib.ListN.{length, drop, length-drop}
-use lib.Seq.{getD-drop, length-take-le}
+use lib.Seq.{getD-drop, length-take-le, take-take}
 use lib.Dec.{eqb, leb}
 use borrow.Author.Tests.{leb-true, le-leb, ltb-true, lt-ltb, eqb-true, eq-eqb}
 use Rattle.meaning.specs.Octets.{octet, at16, part, blank, every}
@@ -200,3 +200,11 @@ spelt-sound m s =
       runs = λ p. let f = s .runsOverFour p in simp (f .0, f .1, f .2, f .3);
       timed = spelt-timer m (s .timer);
     }
+
+-- ---- a value stands at its room's start, as long as its entry says
+
+pub body-spelt : (m : List ℕ) → sound m ≡ true → (k : ℕ) → k < entryCount → body m k ≡ part m (roomAt k) (lengthAt m k)
+unfolding body room part
+body-spelt m e k hk =
+    take-take (size (cell m k)) (rowAt k .most) (drop (roomAt k) m) (entry-of m (opened m e) k hk .inRoom)
+    ∙ ap (λ (n : ℕ). part m (roomAt k) n) (size-spelt m k)

@@ -1,20 +1,21 @@
 -- What was set or given is there afterwards and is read back, and of every other entry presence and value are as they were.
 use Prim.Native.Nat.{ℕ, _<_}
-use mathlib.Core.Path.{_≡_}
+use mathlib.Core.Path.{_≡_, refl}
 use mathlib.Core.Logic.{_≢_}
 use mathlib.Core.Bool.{Bool, true, _||_, _&&_}
 use mathlib.Core.List.{List}
 use borrow.Author.Tests.{ne-eqb}
-use Rattle.meaning.specs.Octets.{nonempty}
+use Rattle.meaning.specs.Octets.{part, nonempty}
 use Rattle.meaning.specs.Checks.{firstFailed, whenPassed}
-use Rattle.meaning.specs.Table.{rowAt, place, entryCount, commit}
+use Rattle.meaning.specs.Table.{rowAt, roomAt, place, listed, entryCount, commit}
 use Rattle.meaning.specs.Block.{sums}
 use Rattle.meaning.specs.Memory.{present, subscribed, pending, body, store, sound}
-use Rattle.meaning.specs.Operation.{read, set}
+use Rattle.meaning.specs.Operation.{capabilities, read, set}
 use Rattle.meaning.specs.Step.{value, shown, readChecks, readAnswer, setChecks, stored, step, answer}
 use Rattle.meaning.specs.Calls.{differs, localMemory}
 use Rattle.meaning.proofs.Places.{listed-place}
 use Rattle.meaning.proofs.Sound.{opened, put-present-same, put-present-other, put-body-same, put-body-other}
+use Rattle.meaning.proofs.Spelt.{lengthAt, body-spelt}
 use Rattle.meaning.proofs.Checked.{set-stores}
 use Rattle.meaning.proofs.Kept.{permits-most, stored-permitted, settable, Local, local-held}
 use Rattle.meaning.proofs.Running.{commit-listed}
@@ -67,6 +68,16 @@ unfolding answer readAnswer readChecks firstFailed whenPassed shown
 set-read m n v s e ne =
     let h = set-leaves m n v s e in
     rw (settable m n v e .isListed, h .presence, ne-eqb (place n) commit ne, h .value, stored-value m (place n) v ne)
+
+-- a read gives the octets that stand in the name's room (RULES 11.1), whoever sets it, and leaves memory; so does get capabilities
+pub read-value : (m : List ℕ) (n : ℕ) → sound m ≡ true → listed n ≡ true → present m (place n) ≡ true → place n ≢ commit
+    → answer m (read n) ≡ value n (part m (roomAt (place n)) (lengthAt m (place n)))
+unfolding answer readAnswer readChecks firstFailed whenPassed shown
+read-value m n s e p ne = rw (e, p, ne-eqb (place n) commit ne, body-spelt m s (place n) (listed-place n e))
+
+pub read-leaves : (m : List ℕ) (n : ℕ) → (step m (read n) ≡ m) × (step m capabilities ≡ m)
+unfolding step
+read-leaves m n = (refl, refl)
 
 -- a read of 8001 (RULES 11.2)
 pub read-running : (m : List ℕ) → present m commit ≡ true → answer m (read 0x8001) ≡ value 0x8001 (sums (body m commit))

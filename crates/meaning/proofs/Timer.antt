@@ -10,12 +10,14 @@ use borrow.Author.Tests.{le-leb}
 use Rattle.meaning.specs.Octets.{every, implies, nonempty}
 use Rattle.meaning.specs.Checks.{firstFailed, whenPassed}
 use Rattle.meaning.specs.Table.{entryCount}
-use Rattle.meaning.specs.Memory.{timer, waiting, expiries, setTimer, subscribed, pending, sound}
+use Rattle.meaning.specs.Memory.{timer, waiting, expiries, setTimer, present, body, subscribed, pending, sound}
 use Rattle.meaning.specs.Calls.{done, numberOnly, call, isCommand, isAcknowledgement, handled, acknowledged, fits, messageChecks, message, reports, notification, cleared, buildChecks, build, expiryChecks, expiry}
+use Rattle.meaning.proofs.Tests.{first-passed}
 use Rattle.meaning.proofs.Places.{timer-setTimer, cell-setTimer}
-use Rattle.meaning.proofs.Sound.{Sound, opened}
+use Rattle.meaning.proofs.Checked.{call-done, call-passed}
+use Rattle.meaning.proofs.Sound.{Sound, opened, present-setTimer, body-setTimer}
 use Rattle.meaning.proofs.Kept.{cleared-sound, expired-again, expired-last}
-use Rattle.meaning.proofs.Marks.{setMarks-marks, setMarks-marks-other}
+use Rattle.meaning.proofs.Marks.{setMarks-marks, setMarks-marks-other, cleared-values}
 
 -- what the timer says
 pub record Timer (m : List ℕ) (w : Bool) (n : ℕ) : Type 0 where
@@ -85,19 +87,29 @@ pub build-does : (m room : List ℕ) → sound m ≡ true → 1600 ≤ length ro
 unfolding build call whenPassed buildChecks firstFailed
 build-does m room s h w n = simp (s, le-leb 1600 (length room) h, w, n)
 
--- what a notification that was built leaves: waiting, no expiry yet, nothing pending, every subscription
+-- what a notification that was built leaves: waiting, no expiry yet, nothing pending, every subscription, presence and value
 pub record Built (m m′ : List ℕ) : Type 0 where
   pub timer : Timer m′ true 0
   pub nothingPending : (j : ℕ) → j < entryCount → pending m′ j ≡ false
   pub subscriptions : (j : ℕ) → j < entryCount → subscribed m′ j ≡ subscribed m j
+  pub presences : (j : ℕ) → j < entryCount → present m′ j ≡ present m j
+  pub values : (j : ℕ) → j < entryCount → body m′ j ≡ body m j
 
-pub build-leaves : (m : List ℕ) → sound m ≡ true → Built m (setTimer (cleared entryCount m) 1 0)
+built : (m : List ℕ) → sound m ≡ true → Built m (setTimer (cleared entryCount m) 1 0)
 unfolding pending subscribed
-build-leaves m s =
+built m s =
     let c = cleared entryCount m in
     let S = opened c (cleared-sound entryCount m (omega arith) s) in
     record {
       timer = timer-waits c 0 S;
       nothingPending = λ j hj. rw (cell-setTimer c 1 0 (S .long) j hj) (cleared-marks entryCount m (omega arith) s j .1 hj);
       subscriptions = λ j hj. rw (cell-setTimer c 1 0 (S .long) j hj) (cleared-marks entryCount m (omega arith) s j .0);
+      presences = λ j hj. present-setTimer c 1 0 S j hj ∙ cleared-values entryCount m (omega arith) s j hj .0;
+      values = λ j hj. body-setTimer c 1 0 S j hj ∙ cleared-values entryCount m (omega arith) s j hj .1;
     }
+
+pub build-leaves : (m room : List ℕ) → build m room .number ≡ 0 → Built m (build m room .memory)
+unfolding build buildChecks
+build-leaves m room e =
+    let f = call-passed (buildChecks m (length room)) _ m room e in
+    rw (call-done (buildChecks m (length room)) _ m room f) (built m (first-passed 0 _ _ f .0))

@@ -4,7 +4,7 @@ use mathlib.Core.Bool.{Bool, true, false, _&&_, cond}
 use mathlib.Core.List.{List, [], _∷_, _++_}
 use lib.ListN.{length, take, drop}
 use lib.Dec.{eqb, leb, ltb}
-use Rattle.meaning.specs.Octets.{octet, at16, be16, be32, part, splice, zeros, blank, every, below, implies}
+use Rattle.meaning.specs.Octets.{octet, at16, be16, part, splice, zeros, blank, every, below, implies}
 use Rattle.meaning.specs.Table.{Row, rowAt, roomAt, byPort, entryCount, memoryLength, timerAt, gateEnabled, adminBaseTime, adminControlListLength, adminControlList, adminCycleTime, supportedListMax, commit}
 use Rattle.meaning.specs.Wire.{expiriesMost}
 use Rattle.meaning.specs.Block.{permits}
@@ -153,4 +153,4 @@ unfoldable pub fresh : List ℕ
 fresh =
     put
     (put (absent entryCount (zeros memoryLength)) gateEnabled (flags true false false) (0 ∷ []))
-    supportedListMax (flags true false false) (be32 64)
+    supportedListMax (flags true false false) (0 ∷ 0 ∷ 0 ∷ 64 ∷ [])

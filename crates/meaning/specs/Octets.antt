@@ -16,12 +16,9 @@ at16 s i = octet s i * 256 + octet s (i + 1)
 unfoldable pub at32 : List ℕ → ℕ → ℕ
 at32 s i = at16 s i * 65536 + at16 s (i + 2)
 
--- a number as two and as four octets
+-- a number as two octets
 unfoldable pub be16 : ℕ → List ℕ
 be16 n = n / 256 % 256 ∷ n % 256 ∷ []
-
-unfoldable pub be32 : ℕ → List ℕ
-be32 n = be16 (n / 65536) ++ be16 (n % 65536)
 
 -- n octets from a place on
 unfoldable pub part : List ℕ → ℕ → ℕ → List ℕ

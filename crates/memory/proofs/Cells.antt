@@ -6,7 +6,7 @@ use mathlib.Core.Path.{_≡_, refl, ap, _∙_}
 use mathlib.Core.List.{List, [], _∷_, _++_}
 use lib.ListN.{length, take, set}
 use borrow.Rule.Slice.PartMut.{putMid}
-use Rattle.meaning.specs.Octets.{be16, be32, splice, zeros}
+use Rattle.meaning.specs.Octets.{be16, splice, zeros}
 use Rattle.meaning.specs.Table.{rowAt, roomAt}
 use Rattle.meaning.specs.Memory.{bit, flags, cellOf, roomOf, putCell, putRoom, put, absent, fresh}
 use Rattle.meaning.proofs.Lists.{splice-length}
@@ -41,5 +41,5 @@ room-back m s v k a b w ha hb hw h e =
 -- cleared, named, and the two values that fresh memory holds put in
 pub fresh-made : (m : List ℕ) {a b d e : List ℕ} → length m ≡ 2100 → a ≡ take 0 m ++ zeros (length m - 0)
     → b ≡ absent 19 a → d ≡ put b 1 1 (0 ∷ []) → e ≡ put d 7 1 (0 ∷ 0 ∷ 0 ∷ 64 ∷ []) → e ≡ fresh
-unfolding fresh flags bit be32 be16
+unfolding fresh flags bit be16
 fresh-made m h p q r s = rw (s, r, q, p, sub-zero, h)

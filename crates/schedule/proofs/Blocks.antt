@@ -15,7 +15,7 @@ use Rattle.meaning.specs.Block.{asNumber, timeOk, entriesOf, eachOk, listOk, in
 use Rattle.meaning.proofs.Lists.{be16-at16}
 use Rattle.meaning.proofs.Sums.{first-sum, second-sum, first-shown, second-shown}
 use Rattle.meaning.proofs.Tests.{and-left, and-right, and-both, every-at, alike, same-true, same-refl}
-use Rattle.meaning.proofs.Kept.{permits-length}
+use Rattle.meaning.proofs.Values.{permits-opened}
 use Rattle.meaning.proofs.Commit.{form-joined}
 use Rattle.octets.proofs.Splices.{then}
 
@@ -173,23 +173,23 @@ in-order false false c = refl
 pub permitted-base : (b : List ℕ) → permits (rowAt adminBaseTime) b ≡ true → (length b ≡ 10) × (timeOk b ≡ true)
 unfolding permits rowAt rows keeps
 permitted-base b p =
-    let h = permits-length (rowAt adminBaseTime) b p in
+    let h = permits-opened (rowAt adminBaseTime) b p in
     (omega arith, every-at _ 2 p)
 
 pub permitted-count : (c : List ℕ) → permits (rowAt adminControlListLength) c ≡ true → (length c ≡ 4) × (asNumber c ≤ 64)
 unfolding permits rowAt rows keeps
 permitted-count c p =
-    let h = permits-length (rowAt adminControlListLength) c p in
+    let h = permits-opened (rowAt adminControlListLength) c p in
     (omega arith, leb-true _ _ (and-right (leb 0 (asNumber c)) _ (every-at _ 2 p)))
 
 pub permitted-list : (l : List ℕ) → permits (rowAt adminControlList) l ≡ true → (length l ≤ 448) × (listOk l ≡ true)
 unfolding permits rowAt rows keeps
-permitted-list l p = (permits-length (rowAt adminControlList) l p .1, every-at _ 2 p)
+permitted-list l p = (permits-opened (rowAt adminControlList) l p .1, every-at _ 2 p)
 
 pub permitted-ratio : (r : List ℕ) → permits (rowAt adminCycleTime) r ≡ true → (length r ≡ 8) × (ratioOk r ≡ true)
 unfolding permits rowAt rows keeps
 permitted-ratio r p =
-    let h = permits-length (rowAt adminCycleTime) r p in
+    let h = permits-opened (rowAt adminCycleTime) r p in
     (omega arith, every-at _ 2 p)
 
 module _ (b c l r : List ℕ) (pb : permits (rowAt adminBaseTime) b ≡ true) (pc : permits (rowAt adminControlListLength) c ≡ true)

@@ -1,31 +1,19 @@
 -- Values of a known length: the numbers that they spell, and the quotient of two of them.
 use Prim.Native.Nat.{ℕ, _*_, _/_}
-use native.Mathlib.Omega.{arith}
-use mathlib.Core.Path.{_≡_}
-use mathlib.Core.List.{List, [], _∷_}
+use mathlib.Core.Path.{_≡_, sym, _∙_}
+use mathlib.Core.List.{List}
 use mathlib.Core.Bool.{true, _||_}
 use mathlib.Core.Logic.{⊎-elim}
 use lib.ListN.{length}
 use lib.Dec.{eqb}
 use borrow.Author.Tests.{eqb-true}
-use Rattle.meaning.specs.Octets.{octet, at16, at32}
-use Rattle.meaning.specs.Block.{asNumberFrom, asNumber, cycle}
+use Rattle.meaning.specs.Octets.{at32}
+use Rattle.meaning.specs.Block.{asNumber, cycle}
 use Rattle.meaning.proofs.Tests.{or-cases}
+use Rattle.meaning.proofs.Values.{four-octets, number-four}
 
-pub number-one : (v : List ℕ) → length v ≡ 1 → asNumber v ≡ octet v 0
-unfolding asNumber asNumberFrom
-number-one [] h = omega arith
-number-one (a ∷ []) h = omega arith
-number-one (a ∷ b ∷ v) h = absurd (omega (arith, h))
-
-pub number-four : (v : List ℕ) → length v ≡ 4 → asNumber v ≡ at32 v 0
-unfolding asNumber asNumberFrom at32 at16
-number-four [] h = omega arith
-number-four (a ∷ []) h = absurd (omega (arith, h))
-number-four (a ∷ b ∷ []) h = absurd (omega (arith, h))
-number-four (a ∷ b ∷ c ∷ []) h = absurd (omega (arith, h))
-number-four (a ∷ b ∷ c ∷ d ∷ []) h = omega arith
-number-four (a ∷ b ∷ c ∷ d ∷ e ∷ v) h = absurd (omega (arith, h))
+pub number-read : (v : List ℕ) → length v ≡ 4 → asNumber v ≡ at32 v 0
+number-read v h = number-four v h ∙ sym (four-octets v 0)
 
 -- a length that is 1 or 4, and not 1
 pub four-left : (n : ℕ) → (eqb n 1 || eqb n 4) ≡ true → (n ≡ 1 → ⊥) → n ≡ 4

@@ -2,7 +2,8 @@
 use native.Mathlib.Omega.{arith}
 use mathlib.Core.Path.{sym, _∙_}
 use borrow.Author.Needs.{needs}
-use Rattle.values.proofs.Values.{number-one, number-four, four-left}
+use Rattle.meaning.proofs.Values.{number-one}
+use Rattle.values.proofs.Values.{number-read, four-left}
 use Rattle.values.proofs.as_number.Statement.{statement}
 use Rattle.values.proofs.as_number.Tie as tie
 
@@ -23,7 +24,7 @@ returns c =
 returns-2 : tie.Need-returns-2
 returns-2 c =
     let s = c .before .before .before in
-    (c .get32 .ensures .0 ∙ sym (number-four (s .args .v .now) (four-left _ (s .pre) (c .before .if1 .left))), c .get32 .ensures .1)
+    (c .get32 .ensures .0 ∙ sym (number-read (s .args .v .now) (four-left _ (s .pre) (c .before .if1 .left))), c .get32 .ensures .1)
 
 pub as-number-spec : {M : Type 1} → statement M
 as-number-spec =

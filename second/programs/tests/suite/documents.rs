@@ -155,6 +155,55 @@ fn names_in_the_documents_stand_where_they_are_placed() {
     }
 }
 
+/// The names of the definitions in some text of specs; types are none.
+fn definitions(specs: &str) -> Vec<&str> {
+    let declared = specs.lines().filter_map(|line| {
+        let heads = ["abbrev pub ", "unfoldable pub ", "pub "];
+        let line = heads.iter().find_map(|head| line.strip_prefix(head))?;
+        Some(line.split_once(" : ")?.0)
+    });
+    declared.filter(|name| !name.contains(' ')).collect()
+}
+
+/// The names that the table of LAWS.md with the head `| Definitions | Held by |` gives for a file.
+fn held<'a>(laws: &'a str, file: &str) -> Vec<&'a str> {
+    let mut rows = laws.lines();
+    rows.find(|line| *line == "| Definitions | Held by |");
+    let rows = rows.take_while(|line| line.starts_with('|'));
+    let rows = rows.filter_map(|row| row.strip_prefix(&format!("| {file}: ")));
+    let cells = rows.filter_map(|row| row.split(" | ").next());
+    cells
+        .flat_map(|c| c.split('`').skip(1).step_by(2))
+        .collect()
+}
+
+#[test]
+fn each_definition_has_a_law_that_holds_it() {
+    let laws = fs::read_to_string(format!("{ROOT}/docs/LAWS.md")).unwrap();
+    let files = fs::read_dir(format!("{ROOT}/crates/meaning/specs")).unwrap();
+    let mut count = 0;
+    for path in files.map(|file| file.unwrap().path()) {
+        let specs = fs::read_to_string(&path).unwrap();
+        let file = path.file_stem().unwrap().to_str().unwrap();
+        let mut defined = definitions(&specs);
+        let mut held = held(&laws, file);
+        count += defined.len();
+        defined.sort();
+        held.sort();
+        assert_eq!(defined, held, "{file}");
+    }
+    assert!(count > 150, "{count} definitions");
+}
+
+#[test]
+fn a_definition_that_no_row_has_is_seen() {
+    let specs = "pub data Op : Type 0 where\nabbrev pub a : ℕ\na = 1\nunfoldable pub b : ℕ → ℕ\npub record R : Type 0 where\n  pub c : ℕ\n";
+    let laws = "| Definitions | Held by |\n|---|---|\n| Octets: `a`, `c` | law `x` in Y |\n| Table: `b` | law `z` in Y |\n\n| Octets: `d` | |";
+    assert_eq!(definitions(specs), ["a", "b"]);
+    assert_eq!(held(laws, "Octets"), ["a", "c"]);
+    assert_eq!(held(laws, "Table"), ["b"]);
+}
+
 #[test]
 fn a_name_that_stands_nowhere_is_missing() {
     let laws = "| Law | Place |\n| `bench`, `bensh` | Bench |\n| `bench` | endpoint: Told |";

@@ -1,0 +1,202 @@
+-- Lives of a port, call by call: what each call returns and writes, spelt in octets, and all of memory at the end.
+use Prim.Native.Nat.{ℕ, _/_, _%_}
+use mathlib.Core.Path.{_≡_, refl}
+use mathlib.Core.List.{List, [], _∷_, _++_, map}
+use lib.ListN.{length}
+use Rattle.meaning.specs.Octets.{flat, zeros}
+use Rattle.meaning.specs.Memory.{fresh}
+use Rattle.meaning.specs.Calls.{Outcome}
+use Rattle.meaning.proofs.All.{all}
+use Rattle.meaning.proofs.Sendings.{Call, refresh, takeMessage, takeValue, buildIn, takeExpiry, gives}
+use Rattle.meaning.proofs.Bench.{Result}
+use Rattle.meaning.proofs.Edges.{four, one, two, times, right, exact, blockOf}
+use Rattle.meaning.proofs.Laid.{Entry, holding, laid, with, fresh-entries, block, full}
+
+-- ---- calls, and what comes of them
+
+-- what some calls give one after another, each on the memory that those before it left, and the memory at the end
+pub record Lived : Type 0 where
+  pub results : List Result
+  pub left : List ℕ
+
+abbrev pub andThen : Outcome → Lived → Lived
+andThen o l = record { results = record { number = o .number; octets = o .written } ∷ l .results; left = l .left }
+
+unfoldable pub lived : List ℕ → List Call → Lived
+lived m [] = record { results = []; left = m }
+lived m (c ∷ cs) =
+    let o = gives m c in
+    andThen o (lived (o .memory) cs)
+
+-- a call, the number that it returns and the octets that it writes
+pub record Turn : Type 0 where
+  pub call : Call
+  pub wanted : Result
+
+abbrev pub turn : Call → ℕ → List ℕ → Turn
+turn c n s = record { call = c; wanted = record { number = n; octets = s } }
+
+abbrev pub calls : List Turn → List Call
+calls ts = map (λ (t : Turn). t .call) ts
+
+abbrev pub results : List Turn → List Result
+results ts = map (λ (t : Turn). t .wanted) ts
+
+-- ---- octets of commands and replies
+
+-- a number of two octets
+unfoldable pub pair : ℕ → List ℕ
+pair n = n / 256 ∷ n % 256 ∷ []
+
+-- octets behind their length
+unfoldable pub measured : List ℕ → List ℕ
+unfolding pair
+measured s = pair (length s) ++ s
+
+unfoldable pub reading : ℕ → List ℕ
+unfolding pair
+reading n = 2 ∷ pair n
+
+unfoldable pub setting : ℕ → List ℕ → List ℕ
+unfolding pair measured
+setting n v = 3 ∷ pair n ++ measured v
+
+unfoldable pub subscribing : ℕ → List ℕ
+unfolding pair
+subscribing n = 4 ∷ pair n
+
+unfoldable pub unsubscribing : ℕ → List ℕ
+unfolding pair
+unsubscribing n = 5 ∷ pair n
+
+-- a command of these operations, with room for its reply
+unfoldable pub command : List (List ℕ) → Call
+unfolding pair measured
+command os = takeMessage (1 ∷ measured (flat (λ (o : List ℕ). o) os)) (zeros 600)
+
+unfoldable pub acknowledgement : Call
+acknowledgement = takeMessage (4 ∷ []) (zeros 1)
+
+-- records: a value behind a length of two octets, of one octet, a cause
+unfoldable pub held : ℕ → List ℕ → List ℕ
+unfolding pair measured
+held n v = pair n ++ measured v
+
+unfoldable pub short : ℕ → List ℕ → List ℕ
+unfolding pair
+short n v = pair n ++ (length v ∷ v)
+
+unfoldable pub cause : ℕ → ℕ → List ℕ
+unfolding pair
+cause n c = pair n ++ (c ∷ [])
+
+-- so many records, behind their count
+unfoldable pub counted : List (List ℕ) → List ℕ
+counted rs = length rs ∷ flat (λ (r : List ℕ). r) rs
+
+-- ---- what a controller does
+
+-- the sums of the block of `one` and `two`
+abbrev sumsOfBoth : List ℕ
+sumsOfBoth = four 0x0C 0x46 0x37 0xC5
+
+unfoldable pub controlled : List Turn
+unfolding command setting reading measured pair held short cause counted one two times right exact
+controlled =
+    turn (command (setting 0x0003 (1 ∷ []) ∷ setting 0x0002 (1 ∷ []) ∷ setting 0x0001 (zeros 8) ∷ setting 0x000B (four 0 0 0 64)
+    ∷ setting 0x0003 (2 ∷ [])
+    ∷ setting 0x0005 (four 1 0 0 0)
+    ∷ reading 0x0003
+    ∷ reading 0x0004
+    ∷ reading 0x0002
+    ∷ [])) 0
+    (0x02 ∷ 0x71 ∷ measured (counted (held 0x0003 (1 ∷ []) ∷ []) ++ counted (cause 0x0004 3 ∷ cause 0x0002 1 ∷ []))
+    ++ (0x72
+    ∷ measured (counted (short 0x0003 (1 ∷ []) ∷ [])
+    ++ counted (cause 0x0002 1 ∷ cause 0x0001 0x6F ∷ cause 0x000B 0x6F ∷ cause 0x0003 2 ∷ cause 0x0005 2 ∷ []))))
+    ∷ turn (command (setting 0x8001 (zeros 4) ∷ setting 0x0004 right ∷ setting 0x0005 (four 0 0 0 2) ∷ setting 0x0006 (one ++ two)
+    ∷ setting 0x0007 exact
+    ∷ setting 0x8001 (zeros 4)
+    ∷ setting 0x8001 sumsOfBoth
+    ∷ reading 0x8001
+    ∷ [])) 0
+    (0x02 ∷ 0x71 ∷ measured (counted (held 0x8001 sumsOfBoth ∷ []) ++ counted [])
+    ++ (0x72
+    ∷ measured (counted (short 0x0004 right ∷ short 0x0005 (four 0 0 0 2) ∷ short 0x0006 (one ++ two) ∷ short 0x0007 exact ∷ short 0x8001 sumsOfBoth ∷ [])
+    ++ counted (cause 0x8001 2 ∷ cause 0x8001 2 ∷ []))))
+    ∷ turn (command (setting 0x0006 one ∷ setting 0x8001 (four 0x0B 0x3F 0xE7 0x10) ∷ reading 0x8001 ∷ reading 0x0006 ∷ [])) 0
+    (0x02 ∷ 0x71 ∷ measured (counted (held 0x8001 sumsOfBoth ∷ held 0x0006 one ∷ []) ++ counted [])
+    ++ (0x72 ∷ measured (counted (short 0x0006 one ∷ []) ++ counted (cause 0x8001 2 ∷ []))))
+    ∷ turn (command (setting 0x0006 (times 36 one) ∷ setting 0x0006 (times 37 two) ∷ [])) 0
+    (0x02 ∷ 0x72
+    ∷ measured (counted (short 0x0006 (times 36 one) ∷ []) ++ (counted [] ++ measured (held 0x0006 (times 37 two)))))
+    ∷ []
+
+-- the block that runs is the one that was committed
+unfoldable pub controlled-entries : List Entry
+unfolding fresh-entries with one two times right exact blockOf
+controlled-entries =
+    with 1 (holding 0x0003 1 (1 ∷ []) 1)
+    (with 2 (holding 0x0004 1 right 10)
+    (with 3 (holding 0x0005 1 (four 0 0 0 2) 4)
+    (with 4 (holding 0x0006 1 (times 37 two) 448)
+    (with 5 (holding 0x0007 1 exact 8)
+    (with 18 (holding 0x8001 1 (blockOf right (four 0 0 0 2) (one ++ two) exact) 470) fresh-entries)))))
+
+pub controlled-life : lived fresh (calls controlled) ≡ record { results = results controlled; left = laid controlled-entries 0 0 }
+unfolding all gives lived controlled command setting reading measured pair held short cause counted one two times right exact blockOf laid with fresh-entries controlled-entries
+controlled-life = refl
+
+-- ---- what a port's own values do
+
+unfoldable pub reported : List Turn
+unfolding command acknowledgement reading subscribing unsubscribing measured pair held cause counted
+reported =
+    turn (command (subscribing 0x0008 ∷ subscribing 0x00A1 ∷ subscribing 0x00A4 ∷ subscribing 0x0002 ∷ [])) 0 (2 ∷ [])
+    ∷ turn (takeValue 0x0008 (four 1 2 3 4)) 0 []
+    ∷ turn (takeValue 0x00A1 []) 0 []
+    ∷ turn (takeValue 0x00A4 (0 ∷ 120 ∷ [])) 0 []
+    ∷ turn (takeValue 0x00A3 (7 ∷ 8 ∷ 9 ∷ [])) 0 []
+    ∷ turn (takeValue 0x0003 (1 ∷ [])) 12 []
+    ∷ turn (takeValue 0x0008 (1 ∷ 2 ∷ 3 ∷ [])) 12 []
+    ∷ turn (buildIn (zeros 1599)) 11 []
+    ∷ turn (buildIn (zeros 1600)) 0
+    (3 ∷ measured (counted (held 0x0008 (four 1 2 3 4) ∷ held 0x00A4 (0 ∷ 120 ∷ []) ∷ []) ++ counted []))
+    ∷ turn (buildIn (zeros 1600)) 10 []
+    ∷ turn (command (reading 0x0008 ∷ [])) 0 (2 ∷ 0x71 ∷ measured (counted (held 0x0008 (four 1 2 3 4) ∷ []) ++ counted []))
+    ∷ turn (takeValue 0x00A1 (9 ∷ 9 ∷ 9 ∷ [])) 0 []
+    ∷ turn takeExpiry 20 []
+    ∷ turn acknowledgement 0 (5 ∷ [])
+    ∷ turn acknowledgement 8 []
+    ∷ turn (takeValue 0x00A1 []) 0 []
+    ∷ turn (buildIn (zeros 1600)) 0 (3 ∷ measured (counted [] ++ counted (cause 0x00A1 3 ∷ [])))
+    ∷ turn takeExpiry 20 []
+    ∷ turn takeExpiry 20 []
+    ∷ turn takeExpiry 20 []
+    ∷ turn takeExpiry 20 []
+    ∷ turn takeExpiry 21 []
+    ∷ turn takeExpiry 8 []
+    ∷ turn (takeValue 0x00A4 (0 ∷ 120 ∷ [])) 0 []
+    ∷ turn (buildIn (zeros 1600)) 9 []
+    ∷ turn (takeValue 0x00A4 (0 ∷ 121 ∷ [])) 0 []
+    ∷ turn (takeValue 0x0008 (four 1 2 3 5)) 0 []
+    ∷ turn (command (unsubscribing 0x00A4 ∷ subscribing 0x0008 ∷ [])) 0 (2 ∷ [])
+    ∷ []
+
+unfoldable pub reported-entries : List Entry
+unfolding fresh-entries with
+reported-entries =
+    with 6 (holding 0x0008 7 (four 1 2 3 5) 4)
+    (with 14 (holding 0x00A1 2 [] 255)
+    (with 16 (holding 0x00A3 1 (7 ∷ 8 ∷ 9 ∷ []) 255) (with 17 (holding 0x00A4 1 (0 ∷ 121 ∷ []) 2) fresh-entries)))
+
+pub reported-life : lived fresh (calls reported) ≡ record { results = results reported; left = laid reported-entries 0 0 }
+unfolding all gives lived reported command acknowledgement reading subscribing unsubscribing measured pair held cause counted laid with fresh-entries reported-entries
+reported-life = refl
+
+-- ---- made fresh
+
+-- whatever was there, a notification that waits too
+pub fresh-life : lived (laid full 1 4) (refresh ∷ []) ≡ record { results = record { number = 0; octets = [] } ∷ []; left = laid fresh-entries 0 0 }
+unfolding all gives lived laid with fresh-entries full block one two right exact blockOf
+fresh-life = refl
