@@ -137,6 +137,7 @@ blocks =
     fit 0x8001
     (blockOf right (four 0 0 0 2) (one ++ two) exact ∷ blockOf right (four 0 0 0 2) (two ++ one) exact
     ∷ blockOf right (four 0 0 0 1) one (four 0 0 0 1 ++ four 0x3B 0x9A 0xCA 0x00)
+    ∷ blockOf right (four 0 0 0 1) two exact
     ∷ blockOf right (four 0 0 0 64) (times 64 one) (four 0 0 0 64 ++ four 0x3B 0x9A 0xCA 0x00)
     ∷ [])
     ++ (break 0x8001

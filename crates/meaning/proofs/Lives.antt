@@ -2,13 +2,13 @@
 use Prim.Native.Nat.{ℕ, _/_, _%_}
 use mathlib.Core.Path.{_≡_, refl}
 use mathlib.Core.List.{List, [], _∷_, _++_, map}
-use lib.ListN.{length}
+use lib.ListN.{length, replicate}
 use Rattle.meaning.specs.Octets.{flat, zeros}
 use Rattle.meaning.specs.Memory.{fresh}
 use Rattle.meaning.specs.Calls.{Outcome}
 use Rattle.meaning.proofs.All.{all}
 use Rattle.meaning.proofs.Sendings.{Call, refresh, takeMessage, takeValue, buildIn, takeExpiry, gives}
-use Rattle.meaning.proofs.Bench.{Result}
+use Rattle.meaning.proofs.Bench.{Result, tableNames}
 use Rattle.meaning.proofs.Edges.{four, one, two, times, right, exact, blockOf}
 use Rattle.meaning.proofs.Laid.{Entry, holding, laid, with, fresh-entries, block, full}
 
@@ -124,9 +124,14 @@ controlled =
     ++ (0x72
     ∷ measured (counted (short 0x0004 right ∷ short 0x0005 (four 0 0 0 2) ∷ short 0x0006 (one ++ two) ∷ short 0x0007 exact ∷ short 0x8001 sumsOfBoth ∷ [])
     ++ counted (cause 0x8001 2 ∷ cause 0x8001 2 ∷ []))))
-    ∷ turn (command (setting 0x0006 one ∷ setting 0x8001 (four 0x0B 0x3F 0xE7 0x10) ∷ reading 0x8001 ∷ reading 0x0006 ∷ [])) 0
-    (0x02 ∷ 0x71 ∷ measured (counted (held 0x8001 sumsOfBoth ∷ held 0x0006 one ∷ []) ++ counted [])
-    ++ (0x72 ∷ measured (counted (short 0x0006 one ∷ []) ++ counted (cause 0x8001 2 ∷ []))))
+    ∷ turn (command (setting 0x0006 one ∷ setting 0x8001 (four 0x0B 0x3F 0xE7 0x10) ∷ setting 0x0005 (zeros 4) ∷ setting 0x0006 []
+    ∷ setting 0x8001 (four 0x0A 0x38 0x9D 0x8D)
+    ∷ reading 0x8001
+    ∷ reading 0x0006
+    ∷ [])) 0
+    (0x02 ∷ 0x71 ∷ measured (counted (held 0x8001 sumsOfBoth ∷ held 0x0006 [] ∷ []) ++ counted [])
+    ++ (0x72
+    ∷ measured (counted (short 0x0006 one ∷ short 0x0005 (zeros 4) ∷ short 0x0006 [] ∷ []) ++ counted (cause 0x8001 2 ∷ cause 0x8001 2 ∷ []))))
     ∷ turn (command (setting 0x0006 (times 36 one) ∷ setting 0x0006 (times 37 two) ∷ [])) 0
     (0x02 ∷ 0x72
     ∷ measured (counted (short 0x0006 (times 36 one) ∷ []) ++ (counted [] ++ measured (held 0x0006 (times 37 two)))))
@@ -138,7 +143,7 @@ unfolding fresh-entries with one two times right exact blockOf
 controlled-entries =
     with 1 (holding 0x0003 1 (1 ∷ []) 1)
     (with 2 (holding 0x0004 1 right 10)
-    (with 3 (holding 0x0005 1 (four 0 0 0 2) 4)
+    (with 3 (holding 0x0005 1 (zeros 4) 4)
     (with 4 (holding 0x0006 1 (times 37 two) 448)
     (with 5 (holding 0x0007 1 exact 8)
     (with 18 (holding 0x8001 1 (blockOf right (four 0 0 0 2) (one ++ two) exact) 470) fresh-entries)))))
@@ -200,3 +205,38 @@ reported-life = refl
 pub fresh-life : lived (laid full 1 4) (refresh ∷ []) ≡ record { results = record { number = 0; octets = [] } ∷ []; left = laid fresh-entries 0 0 }
 unfolding all gives lived laid with fresh-entries full block one two right exact blockOf
 fresh-life = refl
+
+-- ---- refusals
+
+-- memory that is not sound: none of it
+pub unsound-life : lived [] (refresh ∷ takeMessage (1 ∷ 0 ∷ 1 ∷ 1 ∷ []) (zeros 64) ∷ takeValue 0x0008 (four 0 0 0 0) ∷ buildIn (zeros 1600) ∷ takeExpiry ∷ [])
+    ≡ record { results = replicate 5 (record { number = 1; octets = [] }); left = [] }
+unfolding all gives lived
+unsound-life = refl
+
+-- messages into fresh memory, none of which changes it: each with its room's length
+unfoldable pub refused : List Turn
+unfolding tableNames
+refused =
+    turn (takeMessage [] (zeros 64)) 2 []
+    ∷ turn (takeMessage (replicate 2049 1) (zeros 64)) 3 []
+    ∷ turn (takeMessage (0 ∷ []) (zeros 64)) 4 []
+    ∷ turn (takeMessage (2 ∷ 0 ∷ 1 ∷ 1 ∷ []) (zeros 64)) 4 []
+    ∷ turn (takeMessage (5 ∷ []) (zeros 64)) 4 []
+    ∷ turn (takeMessage (1 ∷ 0 ∷ []) (zeros 64)) 5 []
+    ∷ turn (takeMessage (1 ∷ 0 ∷ 0 ∷ 1 ∷ []) (zeros 64)) 5 []
+    ∷ turn (takeMessage (1 ∷ 0 ∷ 2 ∷ 1 ∷ []) (zeros 64)) 5 []
+    ∷ turn (takeMessage (1 ∷ 1 ∷ 1 ∷ 1 ∷ []) (zeros 64)) 5 []
+    ∷ turn (takeMessage (1 ∷ 0 ∷ 1 ∷ 0 ∷ []) (zeros 64)) 6 []
+    ∷ turn (takeMessage (1 ∷ 0 ∷ 2 ∷ 1 ∷ 6 ∷ []) (zeros 64)) 6 []
+    ∷ turn (takeMessage (1 ∷ 0 ∷ 2 ∷ 2 ∷ 0 ∷ 3 ∷ []) (zeros 64)) 6 []
+    ∷ turn (takeMessage (1 ∷ 0 ∷ 5 ∷ 3 ∷ 0 ∷ 3 ∷ 0 ∷ 1 ∷ 1 ∷ []) (zeros 64)) 6 []
+    ∷ turn (takeMessage (1 ∷ 0 ∷ 3 ∷ 2 ∷ 0 ∷ 3 ∷ []) (zeros 10)) 7 []
+    ∷ turn (takeMessage (1 ∷ 0 ∷ 3 ∷ 2 ∷ 0 ∷ 3 ∷ []) (zeros 11)) 0 (2 ∷ 0x71 ∷ 0 ∷ 7 ∷ 1 ∷ 0 ∷ 3 ∷ 0 ∷ 1 ∷ 0 ∷ 0 ∷ [])
+    ∷ turn (takeMessage (4 ∷ 0 ∷ []) (zeros 64)) 8 []
+    ∷ turn (takeMessage (1 ∷ 0 ∷ 1 ∷ 1 ∷ 9 ∷ 9 ∷ []) (zeros 64)) 0 (2 ∷ 0x70 ∷ 0 ∷ 38 ∷ tableNames)
+    ∷ []
+
+pub refused-life : lived fresh (calls refused) ≡ record { results = results refused; left = laid fresh-entries 0 0 }
+unfolding all gives lived refused tableNames laid fresh-entries
+refused-life = refl

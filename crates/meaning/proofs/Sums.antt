@@ -3,8 +3,9 @@
 use Prim.Native.Nat.{ℕ, _+_, _%_, _<_}
 use native.Mathlib.Nat.{add-assoc, add-mod, mod-add-mod}
 use native.Mathlib.Omega.{arith}
-use mathlib.Core.Path.{_≡_, sym, ap, ap₂, _∙_}
+use mathlib.Core.Path.{_≡_, refl, sym, ap, ap₂, _∙_}
 use mathlib.Core.List.{List, [], _∷_, _++_, append-nil}
+use lib.ListN.{replicate}
 use Rattle.meaning.specs.Octets.{at16, be16}
 use Rattle.meaning.specs.Block.{Sums, sumsFrom, sumsOf, sums}
 use Rattle.meaning.proofs.Lists.{at16-be16, at16-second}
@@ -86,3 +87,8 @@ exchange-seen p q x y hx hy e =
     let c : a + x + y ≡ a + y + x = omega arith in
     let d : totals (a + x + y) q ≡ totals (a + y + x) q = ap (λ (n : ℕ). totals n q) c in
     omega (arith, totals-append 0 p (x ∷ y ∷ q), totals-append 0 p (y ∷ x ∷ q))
+
+-- a block of 470 octets FF, at which both sums have wrapped
+pub sums-wrap : sums (replicate 470 0xFF) ≡ 0xD4 ∷ 0x2A ∷ 0xAC ∷ 0xA3 ∷ []
+unfolding sums sumsOf sumsFrom be16
+sums-wrap = refl
