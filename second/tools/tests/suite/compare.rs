@@ -200,6 +200,7 @@ fn traffic_writes_what_comparisons_use() {
         ("frames", tools::traffic::Kind::Frames),
         ("script", tools::traffic::Kind::Script),
         ("calls", tools::traffic::Kind::Calls),
+        ("edges", tools::traffic::Kind::Edges),
     ] {
         let output = run(TRAFFIC, &[word, "18446744073709551615", "300"], &[]);
         assert!(output.status.success());
