@@ -93,8 +93,8 @@ fn a_program_that_differs_fails() {
 fn programs_that_nothing_can_run_are_not_compared() {
     let place = Place::fresh();
     fs::write(place.kit("machine"), "riscv64").unwrap();
-    let told = "check: the proved programs are not compared: they are for x86-64, this machine is riscv64, and the \
-                toolchain has no emulator\n";
+    let told = "check: the proved programs are not compared: they are for x86-64, this machine is \
+                riscv64, and the toolchain has no emulator\n";
     place.assert_shell("./check", 0, &format!("{told}{LAST}"), "");
 }
 
@@ -169,6 +169,73 @@ fn a_comparison_ends_with_the_check() {
     }
 }
 
+/// Stored runs that are those of the programs here, and a second port of two lines.
+fn stored_runs(place: &Place) {
+    let (status, ..) = place.shell(
+        "mkdir -p second/port/src second/wrong second/programs second/tools second/kit
+         printf 'right\\nof the other\\n' >second/port/src/lib.rs; : >second/Cargo.toml
+         for name in bridge rig; do
+           printf '\\0\\0\\0' >crates/$name/stdin
+           \"$KIT/second/$name\" <crates/$name/stdin >crates/$name/stdout
+         done",
+    );
+    assert_eq!(status, 0);
+}
+
+fn edit(place: &Place, name: &str, pairs: &str) {
+    let path = place.root().join("second/wrong").join(name);
+    let text = format!("# A wrong port.\nfile: port/src/lib.rs\n{pairs}");
+    fs::write(path.with_extension("edit"), text).unwrap();
+}
+
+#[test]
+fn a_wrong_port_must_be_seen() {
+    let place = Place::fresh();
+    stored_runs(&place);
+    edit(&place, "a", "old: right\nnew: wrong & all\n");
+    edit(&place, "b", "old: other\nnew: wrong\nold: right\nnew:\n");
+    let seen = "wrong: a.edit: seen by bridge\nwrong: b.edit: seen by bridge\n";
+    let last = "2 wrong ports, all seen\n";
+    place.assert_shell("scripts/wrong", 0, &format!("{seen}{last}"), "");
+    for (pairs, why) in [
+        (
+            "old: other\nnew: another\n",
+            "NOT SEEN: both programs print what is stored",
+        ),
+        (
+            "old: left\nnew: wrong\n",
+            "BAD EDIT: 'left' is not in port/src/lib.rs",
+        ),
+        (
+            "old: t\nnew: wrong\n",
+            "BAD EDIT: 't' is in port/src/lib.rs more than once",
+        ),
+        ("old: right\n", "BAD EDIT: it changes nothing"),
+        (
+            "new: wrong\n",
+            "BAD EDIT: no file or no text is named to be changed",
+        ),
+        (
+            "old: right\nnew: broken\n",
+            "BAD EDIT: cannot be built: error: it is broken",
+        ),
+    ] {
+        edit(&place, "c", pairs);
+        let last = "3 wrong ports, 1 not seen: c.edit\n";
+        let printed = format!("{seen}wrong: c.edit: {why}\n{last}");
+        place.assert_shell("scripts/wrong", 1, &printed, "");
+    }
+}
+
+#[test]
+fn stored_runs_that_are_not_the_programs_show_nothing() {
+    let place = Place::fresh();
+    stored_runs(&place);
+    let told =
+        "wrong: without an edit: rig: the stored runs are not those of the second programs\n";
+    place.assert_shell("echo >>crates/rig/stdout; scripts/wrong", 1, told, "");
+}
+
 #[test]
 fn all_edits_are_tried_if_they_are_asked_for() {
     let place = Place::fresh();
@@ -180,7 +247,10 @@ fn all_edits_are_tried_if_they_are_asked_for() {
     let (status, out, err) = place.shell("./check");
     assert_eq!((status, err.as_str()), (0, ""));
     assert!(out.ends_with(LAST), "{out}");
-    let others = "crates/low/must-fail/b.edit\ncrates/mid/must-fail/c.edit\n";
+    stored_runs(&place);
+    edit(&place, "a", "old: right\nnew: wrong\n");
+    let others = "crates/low/must-fail/b.edit\ncrates/mid/must-fail/c.edit\n\
+                  wrong: a.edit: seen by bridge\n1 wrong ports, all seen\n";
     let (status, out, err) = place.shell("./check --all");
     assert_eq!((status, err.as_str()), (0, ""));
     assert!(out.ends_with(&format!("{LAST}{others}")), "{out}");
