@@ -146,26 +146,37 @@ fn runs(place: &Place, word: &str) -> bool {
         .any(|line| line.contains(word) && line.contains(&folder))
 }
 
+/// Asserts that a comparison ends with its check: by a signal to the check alone, or to all that it
+/// has started, as a terminal sends it.
+fn assert_ends(place: &Place, word: &str, [signal, to]: [&str; 2], number: i32) {
+    let mut child = place.start("TMPDIR=$KIT exec setsid ./check");
+    until(|| runs(place, word));
+    place.shell(&format!("kill -s {signal} -- {to}{}", child.id()));
+    assert_eq!(child.wait().unwrap().signal(), Some(number));
+    until(|| !runs(place, word) && !runs(place, "scripts/agree"));
+}
+
+const SIGNALS: [([&str; 2], i32); 3] = [(["TERM", ""], 15), (["KILL", ""], 9), (["INT", "-"], 2)];
+
 #[test]
-fn a_comparison_ends_with_the_check() {
-    // While it waits for the programs, and while it compares.
-    for word in ["scripts/agree", "second/compare"] {
+fn a_comparison_that_waits_ends_with_the_check() {
+    for (signal, number) in SIGNALS {
         let place = Place::fresh();
-        if word == "second/compare" {
-            let path = place.kit(word);
-            fs::remove_file(&path).unwrap();
-            fs::write(&path, "#!/bin/sh\nwhile sleep 0.1; do :; done\n").unwrap();
-            place.shell("chmod +x \"$KIT/second/compare\"");
-        } else {
-            fs::write(place.kit("hold"), "").unwrap();
-        }
-        let word = word.replace("second/", "tests/");
-        let mut child = place.start("TMPDIR=$KIT exec ./check");
-        until(|| runs(&place, &word));
-        place.shell(&format!("kill {}", child.id()));
-        assert_eq!(child.wait().unwrap().signal(), Some(15));
-        until(|| !runs(&place, &word) && !runs(&place, "scripts/agree"));
-        fs::remove_file(place.kit("hold")).ok();
+        fs::write(place.kit("hold"), "").unwrap();
+        assert_ends(&place, "scripts/agree", signal, number);
+        fs::remove_file(place.kit("hold")).unwrap();
+    }
+}
+
+#[test]
+fn a_comparison_that_runs_ends_with_the_check() {
+    for (signal, number) in SIGNALS {
+        let place = Place::fresh();
+        let path = place.kit("second/compare");
+        fs::remove_file(&path).unwrap();
+        fs::write(&path, "#!/bin/sh\nwhile sleep 0.1; do :; done\n").unwrap();
+        place.shell("chmod +x \"$KIT/second/compare\"");
+        assert_ends(&place, "tests/compare", signal, number);
     }
 }
 
