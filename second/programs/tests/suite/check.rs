@@ -4,7 +4,8 @@
 use std::fs;
 use std::os::unix::fs::symlink;
 use std::os::unix::process::ExitStatusExt;
-use std::time::SystemTime;
+use std::thread::sleep;
+use std::time::{Duration, SystemTime};
 
 use crate::process::RIG;
 use crate::toolchain::{until, Place};
@@ -151,8 +152,18 @@ fn runs(place: &Place, word: &str) -> bool {
 fn assert_ends(place: &Place, word: &str, [signal, to]: [&str; 2], number: i32) {
     let mut child = place.start("TMPDIR=$KIT exec setsid ./check");
     until(|| runs(place, word));
-    place.shell(&format!("kill -s {signal} -- {to}{}", child.id()));
-    assert_eq!(child.wait().unwrap().signal(), Some(number));
+    // More than once: bash outlives an interrupt that comes between two of its commands.
+    let mut ended = None;
+    let kill = format!("kill -s {signal} -- {to}{}", child.id());
+    for _ in 0..200 {
+        place.shell(&kill);
+        ended = child.try_wait().unwrap();
+        if ended.is_some() {
+            break;
+        }
+        sleep(Duration::from_millis(50));
+    }
+    assert_eq!(ended.and_then(|status| status.signal()), Some(number));
     until(|| !runs(place, word) && !runs(place, "scripts/agree"));
 }
 
