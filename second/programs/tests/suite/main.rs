@@ -1,6 +1,7 @@
 //! All tests of the programs `bridge` and `rig` and of what starts them, of the documents and their examples, and of the files, in one program.
 
 mod bridge;
+mod check;
 mod clauses;
 mod documents;
 mod files;

@@ -17,6 +17,7 @@ use kit::files::ROOT;
 use crate::process::{text, BRIDGE, RIG};
 
 const STAND_IN: &str = concat!(env!("CARGO_MANIFEST_DIR"), "/tests/tools/rt");
+const COMPARE: &str = concat!(env!("CARGO_MANIFEST_DIR"), "/tests/tools/compare");
 /// What the starters call. Nothing else is on the PATH, and so no toolchain but the one here.
 const TOOLS: &str =
     "bash sh cat chmod cmp cp cut dirname env find flock grep head ln mkdir mktemp \
@@ -46,15 +47,21 @@ impl Place {
         let place = Place(env::temp_dir().join(base));
         let kit = place.0.join("kit");
         let emulator = format!("on/{}/toolchain/bin", env::consts::ARCH);
-        for folder in ["bin", "docs", "programs", &emulator] {
+        for folder in ["bin", "docs", "programs", "second", &emulator] {
             fs::create_dir_all(kit.join(folder)).unwrap();
         }
         symlink(STAND_IN, kit.join("bin/rt")).unwrap();
         symlink(STAND_IN, kit.join("bin/uname")).unwrap();
         fs::write(kit.join("machine"), env::consts::ARCH).unwrap();
         symlink(STAND_IN, kit.join(emulator).join("qemu-x86_64")).unwrap();
-        symlink(BRIDGE, kit.join("programs/bridge")).unwrap();
-        symlink(RIG, kit.join("programs/rig")).unwrap();
+        for folder in ["programs", "second"] {
+            symlink(BRIDGE, kit.join(folder).join("bridge")).unwrap();
+            symlink(RIG, kit.join(folder).join("rig")).unwrap();
+        }
+        symlink(COMPARE, kit.join("second/compare")).unwrap();
+        // Built with the tests of the whole workspace.
+        let compare = Path::new(BRIDGE).with_file_name("compare");
+        symlink(compare, kit.join("compare")).unwrap();
         let pinned = fs::read_to_string(format!("{ROOT}/toolchain.txt")).unwrap();
         fs::write(kit.join("version"), pinned.lines().last().unwrap()).unwrap();
         place.link_tools();
@@ -171,7 +178,7 @@ impl Place {
 }
 
 /// Waits until something is so.
-fn until(what: impl Fn() -> bool) {
+pub fn until(what: impl Fn() -> bool) {
     let began = Instant::now();
     while !what() {
         assert!(began.elapsed() < Duration::from_secs(30));
@@ -356,24 +363,6 @@ fn another_processor_than_x86_64_wants_the_emulator() {
 }
 
 #[test]
-fn all_edits_are_tried_if_they_are_asked_for() {
-    let place = Place::fresh();
-    for edit in ["low/must-fail/a", "low/tried/b", "mid/tried/c"] {
-        let file = place.root().join("crates").join(edit);
-        fs::create_dir_all(file.parent().unwrap()).unwrap();
-        fs::write(file.with_extension("edit"), "").unwrap();
-    }
-    let last = "3 passed, 0 failed\n";
-    place.assert_shell("./check", 0, last, "");
-    let others = "crates/low/must-fail/b.edit\ncrates/mid/must-fail/c.edit\n";
-    place.assert_shell("./check --all", 0, &format!("{last}{others}"), "");
-    for words in ["--al", "--all --all", "-h"] {
-        let usage = "check: usage: ./check [--all]\n";
-        place.assert_shell(&format!("./check {words}"), 2, "", usage);
-    }
-}
-
-#[test]
 fn another_toolchain_is_told() {
     let place = Place::built();
     let pinned = fs::read_to_string(place.kit("version")).unwrap();
@@ -384,7 +373,8 @@ fn another_toolchain_is_told() {
     let sample = "./bridge samples/three-frames.hex";
     place.assert_shell(sample, 0, ANSWERS, &told("bridge"));
     place.assert_shell("./rig </dev/null", 0, "", &told("rig"));
-    place.assert_shell("./check", 0, "3 passed, 0 failed\n", &told("check"));
+    let (status, _, err) = place.shell("./check");
+    assert_eq!((status, err), (0, told("check")));
     // Measuring wants more than stands in here, but it tells that first.
     let (_, out, err) = place.shell("./measure");
     assert!(out.is_empty() && err.starts_with(&told("measure")), "{err}");

@@ -9,7 +9,7 @@ use tools::traffic::{self, Kind};
 
 fn usage() -> String {
     format!(
-        "usage: traffic KIND SEED COUNT; KIND is {} (these two for rig, all others for bridge), SEED \
+        "usage: traffic KIND SEED COUNT; KIND is {} (the last three for rig, all others for bridge), SEED \
 the number that the stream follows from, COUNT how many frames or instructions it has",
         traffic::words()
     )

@@ -133,7 +133,7 @@ fn change_marks(dice: &mut Dice, memory: &mut [u8]) {
 }
 
 /// Gives an entry a value, sound or not, or makes it absent; its marks stay.
-fn install(memory: &mut [u8], index: usize, value: Option<&[u8]>) {
+pub fn install(memory: &mut [u8], index: usize, value: Option<&[u8]>) {
     let octets = value.unwrap_or_default();
     let entry = &mut memory[index * ENTRY..(index + 1) * ENTRY];
     entry[2] = entry[2] & !PRESENT | if value.is_some() { PRESENT } else { 0 };

@@ -3,6 +3,7 @@
 pub mod acts;
 mod commands;
 pub mod dice;
+mod edges;
 mod frames;
 pub mod measured;
 mod memories;
@@ -29,6 +30,8 @@ pub enum Kind {
     Script,
     /// Records for `rig` that make more calls than they lend and show, to be stored.
     Calls,
+    /// The records for `rig` that lie at the edges, to be stored: they are the same for each seed.
+    Edges,
 }
 
 impl FromStr for Kind {
@@ -39,6 +42,7 @@ impl FromStr for Kind {
             "frames" => Ok(Kind::Frames),
             "script" => Ok(Kind::Script),
             "calls" => Ok(Kind::Calls),
+            "edges" => Ok(Kind::Edges),
             _ => Stream::named(word)
                 .map(Kind::Measured)
                 .ok_or_else(|| format!("KIND is {}, not {word:?}", words())),
@@ -50,7 +54,7 @@ impl FromStr for Kind {
 pub fn words() -> String {
     let measured = STREAMS.iter().map(|stream| stream.word);
     let words: Vec<&str> = ["frames"].into_iter().chain(measured).collect();
-    format!("{}, script or calls", words.join(", "))
+    format!("{}, script, calls or edges", words.join(", "))
 }
 
 /// Writes the stream of `count` pieces that belongs to `seed`.
@@ -61,6 +65,7 @@ pub fn write<W: Write>(kind: Kind, seed: u64, count: u64, sink: &mut W) -> io::R
         Kind::Measured(stream) => stream.write(seed, count, sink),
         Kind::Script => script::write(&mut dice, script::OFTEN, count, sink),
         Kind::Calls => script::write(&mut dice, script::SELDOM, count, sink),
+        Kind::Edges => edges::write(count, sink),
     }
 }
 

@@ -149,6 +149,33 @@ fn wrong_use_of_compare() {
 }
 
 #[test]
+fn seeds_that_are_none_are_told() {
+    let number = "is a number of at most 64 bits, not";
+    for (seeds, why) in [
+        ("0", "SEEDS has no seed in it: \"0\"".to_string()),
+        ("9-5", "SEEDS has no seed in it: \"9-5\"".to_string()),
+        ("-5", format!("SEEDS {number} \"\"")),
+        ("5-", format!("SEEDS {number} \"\"")),
+        ("5-7-9", format!("SEEDS {number} \"7-9\"")),
+        ("1-2e9", format!("SEEDS {number} \"2e9\"")),
+        (
+            "1-18446744073709551616",
+            format!("SEEDS {number} \"18446744073709551616\""),
+        ),
+    ] {
+        let output = run(COMPARE, &[*RIG, *RIG, seeds], &[]);
+        assert_eq!(text(&output.stderr), format!("compare: {why}\n"));
+    }
+    // The last seeds that there are.
+    let seeds = "18446744073709551614-18446744073709551615";
+    let (status, lines) = compare(&[*RIG, *RIG, seeds, "5"]);
+    assert_eq!(
+        (status, lines),
+        (Some(0), vec!["2 streams, 10 lines, 0 differences".into()])
+    );
+}
+
+#[test]
 fn wrong_use_of_traffic() {
     let cases: [&[&str]; 9] = [
         &[],
@@ -173,6 +200,7 @@ fn traffic_writes_what_comparisons_use() {
         ("frames", tools::traffic::Kind::Frames),
         ("script", tools::traffic::Kind::Script),
         ("calls", tools::traffic::Kind::Calls),
+        ("edges", tools::traffic::Kind::Edges),
     ] {
         let output = run(TRAFFIC, &[word, "18446744073709551615", "300"], &[]);
         assert!(output.status.success());

@@ -12,9 +12,14 @@ use crate::process::RIG;
 use crate::stored::assert_prints;
 use crate::traffic::{pieces, play};
 
-/// What the script follows from, and its instructions.
+/// What the part by chance follows from, and its instructions.
 const SEED: u64 = 17_634;
 const RECORDS: u64 = 2_700;
+
+/// The part at the edges, which stands in front.
+fn edges() -> Vec<u8> {
+    stream(Kind::Edges, 0, u64::MAX)
+}
 
 /// An instruction and the line that it is answered with.
 struct Answered {
@@ -49,7 +54,8 @@ impl Answered {
 fn script() -> Vec<Answered> {
     let lines = String::from_utf8(stored("rig", "stdout")).unwrap();
     let lines: Vec<String> = lines.lines().map(String::from).collect();
-    assert_eq!(lines.len() as u64, RECORDS);
+    let edges = pieces(&edges(), 3).len();
+    assert_eq!(lines.len(), edges + RECORDS as usize);
     let (last, lines) = lines.split_last().unwrap();
     assert_eq!(last, "cut");
     let instructions = pieces(&stored("rig", "stdin"), 3);
@@ -82,16 +88,16 @@ fn the_second_rig_prints_the_stored_lines() {
 
 /// The README has the command line that made it. Where `traffic` changes, both files are made anew.
 #[test]
-fn the_stored_script_follows_from_its_seed() {
+fn the_stored_script_has_the_edges_and_follows_from_its_seed() {
     let script = stored("rig", "stdin");
-    assert!(script == stream(Kind::Calls, SEED, RECORDS));
-    assert!(script.len() < 1_000_000);
-    assert!(stored("rig", "stdout").len() < 2_500_000);
+    assert!(script == [edges(), stream(Kind::Calls, SEED, RECORDS)].concat());
+    assert!(script.len() < 1_100_000);
+    assert!(stored("rig", "stdout").len() < 3_000_000);
 }
 
 #[test]
-fn the_stored_script_has_every_instruction_and_shows_often() {
-    let script = script();
+fn the_part_by_chance_has_every_instruction_and_shows_often() {
+    let script = script().split_off(pieces(&edges(), 3).len());
     let of = |code| script.iter().filter(|r| r.code == code).count();
     let calls = script.iter().filter(|r| r.is_call()).count();
     let shown_at_once = script

@@ -40,6 +40,26 @@ fn printed(script: &[u8]) -> Vec<String> {
 }
 
 #[test]
+fn the_edges_are_whole_and_the_same_for_each_seed() {
+    let edges = stream(Kind::Edges, 1, u64::MAX);
+    assert!(edges == stream(Kind::Edges, 2, u64::MAX));
+    assert!(edges.starts_with(&stream(Kind::Edges, 1, 700)));
+    let lines = printed(&edges);
+    assert_eq!(lines.len(), pieces(&edges, 3).len());
+    assert!(lines.iter().all(|line| line != "cut"));
+    // What follows finds fresh memory.
+    assert!(edges.ends_with(&[0, 0, 0]));
+    let mut numbers: BTreeMap<&str, usize> = BTreeMap::new();
+    for line in &lines {
+        *numbers.entry(line.split(' ').next().unwrap()).or_default() += 1;
+    }
+    for number in (0..=12).chain([20, 21]).filter(|number| *number != 2) {
+        let seen = numbers.get(&*number.to_string()).copied();
+        assert!(seen.is_some(), "number {number}");
+    }
+}
+
+#[test]
 fn scripts_reach_every_number() {
     let mut reached: BTreeMap<u8, usize> = BTreeMap::new();
     let mut cut = 0;

@@ -1,0 +1,84 @@
+//! A script that is put together by hand: its instructions, and what a rig makes of them.
+
+use std::io::{self, Sink};
+
+use programs::rig::{code, Rig};
+use programs::stream::Lines;
+
+use crate::traffic::operations::Operations;
+
+/// A room that is large enough for every reply.
+pub const AMPLE: u16 = 4_096;
+
+/// The script so far, and a rig that has played it.
+pub struct Edges {
+    pub script: Vec<Vec<u8>>,
+    pub rig: Rig<Sink>,
+}
+
+impl Edges {
+    pub fn new() -> Edges {
+        Edges {
+            script: Vec::new(),
+            rig: Rig::new(Lines::new(io::sink())),
+        }
+    }
+
+    pub fn instruction(&mut self, code: u8, body: &[u8]) {
+        let [high, low] = (body.len() as u16).to_be_bytes();
+        self.script.push([&[code, high, low], body].concat());
+        // A rig that writes to a sink cannot fail.
+        let _ = self.rig.instruction(code, body);
+    }
+
+    pub fn fresh(&mut self) {
+        self.instruction(code::MAKE_FRESH, &[]);
+    }
+
+    pub fn message(&mut self, room: u16, message: &[u8]) {
+        let body = [&room.to_be_bytes(), message].concat();
+        self.instruction(code::MESSAGE, &body);
+    }
+
+    /// A command of the operations that `add` adds, in an ample room.
+    pub fn command(&mut self, add: impl FnOnce(&mut Operations)) {
+        self.command_into(AMPLE, add);
+    }
+
+    pub fn command_into(&mut self, room: u16, add: impl FnOnce(&mut Operations)) {
+        let mut operations = Operations::default();
+        add(&mut operations);
+        self.message(room, &operations.command());
+    }
+
+    pub fn local(&mut self, name: u16, value: &[u8]) {
+        let body = [&name.to_be_bytes(), value].concat();
+        self.instruction(code::LOCAL_VALUE, &body);
+    }
+
+    pub fn build(&mut self) {
+        self.build_into(AMPLE);
+    }
+
+    pub fn build_into(&mut self, room: u16) {
+        self.instruction(code::BUILD, &room.to_be_bytes());
+    }
+
+    pub fn expiry(&mut self) {
+        self.instruction(code::EXPIRY, &[]);
+    }
+
+    pub fn acknowledge(&mut self) {
+        self.message(AMPLE, &[4]);
+    }
+
+    /// Memory that is lent, and whether it is sound: an expiry returns 1 where it is not.
+    pub fn lend(&mut self, memory: &[u8]) {
+        self.instruction(code::LEND, memory);
+        self.expiry();
+    }
+
+    pub fn show(&mut self) {
+        self.instruction(code::SHOW_MEMORY, &[]);
+    }
+}
