@@ -2,5 +2,6 @@
 -- handed out.
 pub mod Turns
 pub mod Found
+pub mod Hands
 pub mod Reading
 pub mod ToTheEnd
