@@ -22,7 +22,7 @@ use Rattle.operation.specs.Handing.{opOf}
 use Rattle.operation.proofs.Handed.{the-type}
 use Rattle.operation.proofs.Turns.{HandsOut}
 use Rattle.command.specs.declared.Answer.{Answer}
-use Rattle.command.specs.Answers.{answerOf, told}
+use Rattle.command.specs.Answers.{told}
 use Rattle.command.proofs.Told.{told-back}
 use Rattle.command.proofs.Walk.{Under, rest, under-start, under-end, under-rest, under-turn}
 use Rattle.section.specs.declared.Places.{Places}

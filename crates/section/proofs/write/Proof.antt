@@ -11,6 +11,7 @@ use Rattle.command.proofs.Sets.{long-of}
 use Rattle.command.proofs.Told.{told-back}
 use Rattle.command.proofs.Walk.{under-ahead}
 use Rattle.section.specs.Knowing.{Knows}
+use Rattle.section.proofs.Knows.{kept-knows, learnt-knows}
 use Rattle.section.proofs.Pass.{Passing, passing-start, passing-end, turn-fits, passing-turn}
 use Rattle.section.proofs.write.Statement.{statement}
 use Rattle.section.proofs.write.Tie as tie
@@ -66,10 +67,13 @@ still-known : (c : tie.After-kept Inv-loop μ-loop) → Knows (c .before .before
 still-known c =
     let l = c .before .before .before .before .before .before .before .before .before .before .loop in
     let k = c .before .before .before .before .carry-out in
-    rw (k .ensures .0) (c .kept .ensures _ _ (l .inv .under .isSound) (l .inv .knows))
+    rw (k .ensures .0, c .kept .ensures) (kept-knows _ _ _ (l .known) (l .inv .under .isSound) (l .inv .knows))
 
 learnt-requires : tie.Need-learnt-requires Inv-loop μ-loop
 learnt-requires c κs = (c .before .before .before .before .carry-out .kept .0 ∙ long-of _ (c .before .before .before .before .before .before .before .before .before .before .loop .inv .under .isSound), still-known c)
+
+now-known : (c : tie.After-learnt Inv-loop μ-loop) → Knows (c .before .before .before .before .before .carry-out .last .0) (c .learnt .result)
+now-known c = rw (c .learnt .ensures) (learnt-knows _ (c .before .before .before .before .before .carry-out .result) (c .before .kept .result) (still-known (c .before)))
 
 put-requires : tie.Need-put-requires Inv-loop μ-loop
 put-requires c κs =
@@ -81,7 +85,7 @@ put-requires c κs =
       s .pre .2,
       ahead h .2,
       told-back _ _ _ _ (k .result) (k .ensures .0) (k .ensures .1) .1,
-      c .before .before .learnt .ensures,
+      now-known (c .before .before),
       turn-fits _ _ _ _ _ _ (l .c) (l .known) (l .from) (l .inv) _ (hands (h .before .before)) _ _ (h .h .given .1) _ (k .result) (k .ensures .0) (k .ensures .1),
     )
 
@@ -96,7 +100,7 @@ loop-again c =
     let h = c .before .before .before .before .before .before .before .before .before .before .before .before .before in
     let l = c .before .before .before .before .before .before .before .before .before .before .before .before .before .before .before .before .loop in
     passing-turn _ _ _ _ _ _ (l .c) (l .known) (l .from) (l .inv) _ (hands (h .before .before)) _ _ (h .h .given .1) _ (k .result) (k .ensures .0) (k .ensures .1)
-    _ _ _ (c .before .before .before .before .before .learnt .ensures) (c .before .before .put .ensures)
+    _ _ _ (now-known (c .before .before .before .before .before)) (c .before .before .put .ensures)
 
 pub write-spec : {M : Type 1} → statement M
 write-spec =
