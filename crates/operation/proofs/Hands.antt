@@ -19,8 +19,8 @@ use Rattle.operation.proofs.Turns.{found, first, handing, Reached, Hand
 
 module _ (s : List ℕ) (octets : (i : ℕ) → getD s i 0 < 256) (at : ℕ) where
   -- what is found at the position is handed out
-  abbrev Handing : Next → Type 0
-  Handing nx = (handing s (foundAt (length s) at nx) ≡ found nx) × Reached (length s) at (foundAt (length s) at nx)
+  abbrev Meets : Next → Type 0
+  Meets nx = (handing s (foundAt (length s) at nx) ≡ found nx) × Reached (length s) at (foundAt (length s) at nx)
 
   module _ (h : at < length s) where
     abbrev behind : List ℕ
@@ -31,43 +31,43 @@ module _ (s : List ℕ) (octets : (i : ℕ) → getD s i 0 < 256) (at : ℕ) whe
     name-small = rw (getD-drop (suc at) s 0 0, getD-drop (suc at) s 1 0) (omega (arith, octets (suc at + 0), octets (suc at + 1)))
 
     -- an operation of w octets after its code
-    whole-hands : (w : ℕ) (o : operation.Op) → (w ≤ length behind → (opOf s (opAt at o) ≡ o) × Inside (length s) (opAt at o)) → Handing (whole w behind o)
+    whole-hands : (w : ℕ) (o : operation.Op) → (w ≤ length behind → (opOf s (opAt at o) ≡ o) × Inside (length s) (opAt at o)) → Meets (whole w behind o)
     unfolding handing foundAt
     whole-hands w o k = go (decLe w (length behind))
       where
-        go : Dec (w ≤ length behind) → Handing (whole w behind o)
+        go : Dec (w ≤ length behind) → Meets (whole w behind o)
         go (yes l) =
             let e : length s - length (drop w behind) ≡ suc at + w = omega (arith, rest-length s at h, length-drop w behind) in
             rw (whole-there w behind o l, e, k l .0, rest-drop s at h w (suc at + w) refl)
             (refl, (omega arith, omega (arith, l, rest-length s at h), k l .1))
         go (no l) = rw (whole-cut w behind o (omega arith)) (refl, tt)
 
-    named-hands : (f : ℕ → operation.Op) → ((n : ℕ) → n < 65536 → (opOf s (opAt at (f n)) ≡ f n) × Inside (length s) (opAt at (f n))) → Handing (shaped (named f) behind)
+    named-hands : (f : ℕ → operation.Op) → ((n : ℕ) → n < 65536 → (opOf s (opAt at (f n)) ≡ f n) × Inside (length s) (opAt at (f n))) → Meets (shaped (named f) behind)
     unfolding shaped
     named-hands f k = whole-hands 2 (f (at16 behind 0)) (λ _. k (at16 behind 0) name-small)
 
-    set-hands : Handing (shaped (valued set) behind)
+    set-hands : Meets (shaped (valued set) behind)
     unfolding shaped opOf opAt
     set-hands =
         let z = at16 behind 2 in
         whole-hands (4 + z) (set (at16 behind 0) (part behind 4 z)) (λ l.
         rw (length-part behind 4 z l) (rw (rest-part s at h 4 (at + 5) z (omega arith)) refl, (name-small, omega (arith, l, rest-length s at h))))
 
-    either-hands : (b : Bool) (x y : Shape) → Handing (shaped x behind) → Handing (shaped y behind) → Handing (shaped (cond b x y) behind)
+    either-hands : (b : Bool) (x y : Shape) → Meets (shaped x behind) → Meets (shaped y behind) → Meets (shaped (cond b x y) behind)
     either-hands true x y p q = p
     either-hands false x y p q = q
 
-    alone-hands : Handing (shaped (alone capabilities) behind)
+    alone-hands : Meets (shaped (alone capabilities) behind)
     unfolding shaped handing foundAt opOf opAt
     alone-hands =
         let e : length s - length behind ≡ suc at = omega (arith, rest-length s at h) in
         rw e (refl, (omega arith, omega arith, tt))
 
-    malformed-hands : Handing (shaped malformed behind)
+    malformed-hands : Meets (shaped malformed behind)
     unfolding shaped handing foundAt
     malformed-hands = (refl, tt)
 
-    shape-hands : (c : ℕ) → Handing (shaped (shape c) behind)
+    shape-hands : (c : ℕ) → Meets (shaped (shape c) behind)
     unfolding shape opOf opAt
     shape-hands c =
         either-hands (eqb c 1) _ _ alone-hands
