@@ -8,19 +8,19 @@ use Rattle.meaning.specs.Operation.{Op, capabilities, read, set, subscribe, uns
 use Rattle.meaning.specs.Table.{place}
 use Rattle.meaning.specs.Memory.{store}
 use Rattle.meaning.specs.Step.{value, readError, update, updateError, shown, readChecks, readAnswer, setChecks, stored, setAnswer, setMemory, step, answer, after, answers}
-use Rattle.command.specs.Answers.{mayChange, anyChange}
+use Rattle.command.specs.Answers.{told, mayChange, anyChange}
 
 neither : (a b : Bool) → (a || b) ≡ false → (a ≡ false) × (b ≡ false)
 neither true b e = absurd (true≢false e)
 neither false b e = (refl, e)
 
-pub step-unchanged : (m : List ℕ) (o : Op) → mayChange (answer m o) ≡ false → step m o ≡ m
-unfolding mayChange answer step setAnswer setMemory whenPassed
+pub step-unchanged : (m : List ℕ) (o : Op) → mayChange (told (answer m o)) ≡ false → step m o ≡ m
+unfolding mayChange told answer step setAnswer setMemory whenPassed
 step-unchanged m capabilities e = refl
 step-unchanged m (read n) e = refl
 step-unchanged m (set n v) e = go (firstFailed (setChecks m n v)) e
   where
-    go : (c : ℕ) → mayChange (whenPassed c (update n v) (updateError n)) ≡ false → whenPassed c (store m (place n) (stored m (place n) v)) (λ _. m) ≡ m
+    go : (c : ℕ) → mayChange (told (whenPassed c (update n v) (updateError n))) ≡ false → whenPassed c (store m (place n) (stored m (place n) v)) (λ _. m) ≡ m
     go zero e = absurd (true≢false e)
     go (suc c) e = refl
 step-unchanged m (subscribe n) e = absurd (true≢false e)
@@ -30,16 +30,16 @@ pub after-unchanged : (m : List ℕ) (os : List Op) → anyChange (answers m os)
 unfolding anyChange answers after
 after-unchanged m [] e = refl
 after-unchanged m (o ∷ os) e =
-    let n = neither (mayChange (answer m o)) _ e in
+    let n = neither (mayChange (told (answer m o))) _ e in
     let s = step-unchanged m o (n .0) in
     rw s (after-unchanged m os (rw s at (n .1)))
 
 -- a command of reads alone changes nothing
-read-unchanging : (m : List ℕ) (n : ℕ) → mayChange (readAnswer m n) ≡ false
-unfolding mayChange readAnswer whenPassed
+read-unchanging : (m : List ℕ) (n : ℕ) → mayChange (told (readAnswer m n)) ≡ false
+unfolding mayChange told readAnswer whenPassed
 read-unchanging m n = go (firstFailed (readChecks m n))
   where
-    go : (c : ℕ) → mayChange (whenPassed c (value n (shown m (place n))) (readError n)) ≡ false
+    go : (c : ℕ) → mayChange (told (whenPassed c (value n (shown m (place n))) (readError n))) ≡ false
     go zero = refl
     go (suc c) = refl
 

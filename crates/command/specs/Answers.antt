@@ -1,11 +1,10 @@
--- The answers of the code's enum as those of `meaning`, and which of these may come with a changed memory.
+-- The answers of the code's enum as those of `meaning` and back, and which of them may come with a changed memory.
 use Prim.Native.Nat.{ℕ, _<_}
-use mathlib.Core.Path.{_≡_}
 use mathlib.Core.Bool.{Bool, true, false, _||_}
 use mathlib.Core.List.{List, [], _∷_}
 use Rattle.meaning.specs.Octets.{part}
-use Rattle.meaning.specs.Table.{entryCount}
-use Rattle.meaning.specs.Step.{names, value, readError, update, updateError, silent, shown, readAnswer}
+use Rattle.meaning.specs.Table.{entryCount, place}
+use Rattle.meaning.specs.Step.{names, value, readError, update, updateError, silent, shown}
 use Rattle.meaning.specs.Step as step
 use Rattle.operation.specs.declared.Op.{Op}
 use Rattle.operation.specs.Handing.{nameOf, fromOf, sizeOf}
@@ -30,23 +29,24 @@ InTable Update = Unit {0}
 InTable (UpdateError c) = Unit {0}
 InTable Silent = Unit {0}
 
--- the answer to a read of a name, whatever the list
-abbrev pub AnswersRead : List ℕ → ℕ → Answer → Type 0
-AnswersRead m n a = (s : List ℕ) (o : Op) → nameOf o ≡ n → (answerOf m s o a ≡ readAnswer m n) × InTable a
+-- an answer of `meaning` as the code's: a value by the place of its name
+unfoldable pub told : step.Answer → Answer
+told names = Names
+told (value n v) = Value (place n)
+told (readError n c) = ReadError c
+told (update n v) = Update
+told (updateError n c) = UpdateError c
+told silent = Silent
 
 -- an operation with this answer may have changed memory: a value set, or a mark
-unfoldable pub mayChange : step.Answer → Bool
-mayChange names = false
-mayChange (value n v) = false
-mayChange (readError n c) = false
-mayChange (update n v) = true
-mayChange (updateError n c) = false
-mayChange silent = true
+unfoldable pub mayChange : Answer → Bool
+mayChange Names = false
+mayChange (Value k) = false
+mayChange (ReadError c) = false
+mayChange Update = true
+mayChange (UpdateError c) = false
+mayChange Silent = true
 
 unfoldable pub anyChange : List step.Answer → Bool
 anyChange [] = false
-anyChange (r ∷ rs) = mayChange r || anyChange rs
-
--- whether an operation answered so may have changed memory, whatever memory, list and operation
-abbrev pub TellsChange : Answer → Bool → Type 0
-TellsChange a b = (m s : List ℕ) (o : Op) → b ≡ mayChange (answerOf m s o a)
+anyChange (r ∷ rs) = mayChange (told r) || anyChange rs

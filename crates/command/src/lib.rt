@@ -7,9 +7,9 @@ ghost use lib.ListN.{length};
 ghost use Rattle.meaning.specs.Checks.{firstFailed};
 ghost use Rattle.meaning.specs.Table.{memoryLength, entryCount, commit};
 ghost use Rattle.meaning.specs.Memory.{sound, store};
-ghost use Rattle.meaning.specs.Step.{block, commits, permitted, setChecks, stored, setMemory, subscribeMemory, unsubscribeMemory, step, answer};
+ghost use Rattle.meaning.specs.Step.{readAnswer, block, commits, permitted, setChecks, stored, setMemory, subscribeMemory, unsubscribeMemory, step, answer};
 ghost use Rattle.operation.specs.Handing.{opOf, Inside};
-ghost use Rattle.command.specs.Answers.{answerOf, InTable, AnswersRead, TellsChange};
+ghost use Rattle.command.specs.Answers.{told, mayChange};
 use operation::Op;
 
 // An answer to an operation: all names; a value, by its place in the table, or a cause to a read; that the operation's value
@@ -26,7 +26,7 @@ pub enum Answer {
 // A read: its value, or the causes of RULES 11.3 and 11.4.
 fn read(m: &[u8], name: usize) -> Answer
     requires { ⌜ length (now m) ≡ memoryLength ⌝ }
-    ensures { λ r. ⌜ AnswersRead (now (m .entry)) name r ⌝ }
+    ensures { λ r. ⌜ r ≡ told (readAnswer (now (m .entry)) name) ⌝ }
 {
     let k = table::place_of(name);
     if table::ENTRY_COUNT <= k {
@@ -128,7 +128,7 @@ fn unsubscribe(m: &mut [u8], name: usize)
 pub fn carry_out(m: &mut [u8], list: &[u8], op: Op) -> Answer
     requires { ⌜ (sound (now m) ≡ true) × Inside (length (now list)) op ⌝ }
     ensures { λ _. ⌜ now (m .exit) ≡ step (now (m .entry)) (opOf (now (list .entry)) op) ⌝ }
-    ensures { λ r. ⌜ (answerOf (now (m .exit)) (now (list .entry)) op r ≡ answer (now (m .entry)) (opOf (now (list .entry)) op)) × InTable r ⌝ }
+    ensures { λ r. ⌜ r ≡ told (answer (now (m .entry)) (opOf (now (list .entry)) op)) ⌝ }
 {
     match op {
         Op::Capabilities => Answer::Names,
@@ -155,7 +155,7 @@ pub fn carry_out(m: &mut [u8], list: &[u8], op: Op) -> Answer
 // Whether an operation with this answer may have changed memory: a value set, or a mark. Names, reads and refused sets
 // leave it.
 pub fn changes(a: Answer) -> bool
-    ensures { λ r. ⌜ TellsChange a r ⌝ }
+    ensures { λ r. ⌜ r ≡ mayChange a ⌝ }
 {
     match a {
         Answer::Names => false,

@@ -4,13 +4,14 @@ use native.Mathlib.Omega.{arith}
 use mathlib.Core.Path.{_≡_, sym, ap, _∙_}
 use mathlib.Core.List.{List, []}
 use mathlib.Core.Option.{Option, none, some}
-use lib.ListN.{length, drop}
+use lib.ListN.{length, drop, getD}
 use Rattle.meaning.specs.Operation.{more, parse}
 use Rattle.meaning.specs.Operation as operation
 use Rattle.operation.specs.declared.Handed.{Handed}
 use Rattle.operation.specs.declared.Handed.the-variants.{Operation, Malformed, End}
-use Rattle.operation.specs.Handing.{opOf, HandsOut}
-use Rattle.operation.proofs.Turns.{turn, turn-malformed, turn-end}
+use Rattle.operation.specs.Handing.{opOf, handedAt}
+use Rattle.operation.proofs.Turns.{HandsOut, turn, turn-malformed, turn-end}
+use Rattle.operation.proofs.Hands.{hands-out}
 
 -- by one answer: an operation and those that are handed out from the position after it, no more at the end, and none where it is malformed
 unfoldable pub onward : List ℕ → Handed → (ℕ → Option (List operation.Op)) → Option (List operation.Op)
@@ -33,14 +34,14 @@ module _ (s : List ℕ) where
   onward-parses at Malformed rest h k = sym (turn-malformed s at (h .0))
   onward-parses at End rest h k = sym (turn-end s at (h .0))
 
-  module _ (f : ℕ → Handed) (hands : (at : ℕ) → at ≤ length s → HandsOut s at (f at)) where
+  module _ (octets : (i : ℕ) → getD s i 0 < 256) (f : ℕ → Handed) (each : (at : ℕ) → at ≤ length s → f at ≡ handedAt s at) where
     from-position : (n at : ℕ) → at ≤ length s → length s < at + n → handedOut s f n at ≡ parse (drop at s)
     unfolding handedOut
     from-position zero at l b = absurd (omega arith)
     from-position (suc n) at l b =
-        onward-parses at (f at) (handedOut s f n) (hands at l) (λ next a e. from-position n next e (omega (arith, a, b)))
+        onward-parses at (f at) (handedOut s f n) (hands-out s octets at (f at) (each at l)) (λ next a e. from-position n next e (omega (arith, a, b)))
 
-    -- if each answer is one that the contract of `next` allows a reader at that position, then those from the start to the end are the list's
+    -- if each answer is the one that the contract of `next` gives a reader at that position, then those from the start to the end are the list's
     -- operations, and none where one is malformed. Any number of calls above that of its octets is enough
     pub to-the-end : (n : ℕ) → length s < n → handedOut s f n 0 ≡ parse s
     to-the-end n b = from-position n 0 (omega arith) (omega (arith, b))

@@ -5,17 +5,43 @@ use mathlib.Core.Path.{_≡_, refl, sym, ap, _∙_}
 use mathlib.Core.Bool.{true, false≢true}
 use mathlib.Core.List.{List, [], _∷_}
 use mathlib.Core.Option.{Option, none, some}
-use lib.ListN.{drop}
-use Rattle.meaning.specs.Operation.{follow, more, parse, isSome, orNone}
+use lib.ListN.{length, drop}
+use Rattle.meaning.specs.Operation.{Next, bad, got, shape, shaped, follow, more, parse, isSome, orNone}
 use Rattle.meaning.specs.Operation as operation
 use Rattle.meaning.proofs.Encode.{parse-step, parse-nil}
 use Rattle.operation.specs.declared.Op.{Op}
 use Rattle.operation.specs.declared.Op.the-variants.{Capabilities, Read, Set, Subscribe, Unsubscribe}
 use Rattle.operation.specs.declared.Handed.{Handed}
 use Rattle.operation.specs.declared.Handed.the-variants.{Operation, Malformed, End}
-use Rattle.operation.specs.Handing.{opOf, nameOf, fromOf, sizeOf, Inside, Handing, ended, found, first, handing}
--- what a turn begins with
-pub use Rattle.operation.specs.Handing.{HandsOut}
+use Rattle.operation.specs.Handing.{opOf, nameOf, fromOf, sizeOf, Inside}
+
+-- ---- what a turn begins with
+
+-- what octets hand out: the end where there are none, else what their first operation is
+pub data Handing : Type 0 where
+  ended : Handing
+  found : Next → Handing
+
+unfoldable pub first : List ℕ → Handing
+first [] = ended
+first (c ∷ s) = found (shaped (shape c) s)
+
+unfoldable pub handing : List ℕ → Handed → Handing
+handing s (Operation o next) = found (got (opOf s o) (drop next s))
+handing s Malformed = found bad
+handing s End = ended
+
+-- the position after an operation lies ahead, and within n octets
+abbrev pub Reached : ℕ → ℕ → Handed → Type 0
+Reached n at (Operation o next) = (at < next) × (next ≤ n) × Inside n o
+Reached n at Malformed = Unit {0}
+Reached n at End = Unit {0}
+
+-- r is what the list s hands out at a position, wherever a set's value lies
+abbrev pub HandsOut : List ℕ → ℕ → Handed → Type 0
+HandsOut s at r = (handing s r ≡ first (drop at s)) × Reached (length s) at r
+
+-- ---- what is parsed
 
 -- what is parsed where the first operation is known
 unfoldable parsed : Handing → Option (List operation.Op)

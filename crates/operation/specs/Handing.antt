@@ -1,6 +1,5 @@
 -- The operations of the code's enum as those of `meaning`, and what a list hands out.
-use Prim.Native.Nat.{ℕ, _+_, _≤_, _<_}
-use mathlib.Core.Path.{_≡_}
+use Prim.Native.Nat.{ℕ, _+_, _-_, _≤_, _<_}
 use mathlib.Core.List.{List, [], _∷_}
 use lib.ListN.{length, drop}
 use Rattle.meaning.specs.Octets.{part}
@@ -41,20 +40,6 @@ sizeOf (Set n from size) = size
 sizeOf (Subscribe n) = 0
 sizeOf (Unsubscribe n) = 0
 
--- what octets hand out: the end where there are none, else what their first operation is
-pub data Handing : Type 0 where
-  ended : Handing
-  found : Next → Handing
-
-unfoldable pub first : List ℕ → Handing
-first [] = ended
-first (c ∷ s) = found (shaped (shape c) s)
-
-unfoldable pub handing : List ℕ → Handed → Handing
-handing s (Operation o next) = found (got (opOf s o) (drop next s))
-handing s Malformed = found bad
-handing s End = ended
-
 -- a name is a number of two octets, and a set's value lies within n octets
 abbrev pub Inside : ℕ → Op → Type 0
 Inside n Capabilities = Unit {0}
@@ -63,12 +48,26 @@ Inside n (Set name from size) = (name < 65536) × (from + size ≤ n)
 Inside n (Subscribe name) = name < 65536
 Inside n (Unsubscribe name) = name < 65536
 
--- the position after an operation lies ahead, and within n octets
-abbrev pub Reached : ℕ → ℕ → Handed → Type 0
-Reached n at (Operation o next) = (at < next) × (next ≤ n) × Inside n o
-Reached n at Malformed = Unit {0}
-Reached n at End = Unit {0}
+-- ---- what a list hands out
 
--- r is what the list s hands out at a position
-abbrev pub HandsOut : List ℕ → ℕ → Handed → Type 0
-HandsOut s at r = (handing s r ≡ first (drop at s)) × Reached (length s) at r
+-- an operation that stands at a position: the value of a set lies behind its code, its name and its length, 5 octets
+unfoldable pub opAt : ℕ → operation.Op → Op
+opAt at capabilities = Capabilities
+opAt at (read n) = Read n
+opAt at (set n v) = Set n (at + 5) (length v)
+opAt at (subscribe n) = Subscribe n
+opAt at (unsubscribe n) = Unsubscribe n
+
+-- what is found at a position of n octets; the octets behind an operation tell the position after it
+unfoldable pub foundAt : ℕ → ℕ → Next → Handed
+foundAt n at bad = Malformed
+foundAt n at (got o behind) = Operation (opAt at o) (n - length behind)
+
+-- the end where no octet is left at the position, else what the first operation of those left is
+unfoldable pub handedFrom : ℕ → ℕ → List ℕ → Handed
+handedFrom n at [] = End
+handedFrom n at (c ∷ s) = foundAt n at (shaped (shape c) s)
+
+-- what the list s hands out at a position
+unfoldable pub handedAt : List ℕ → ℕ → Handed
+handedAt s at = handedFrom (length s) at (drop at s)

@@ -2,7 +2,7 @@
 // What is handed out is what `meaning` finds at the position.
 ghost use mathlib.Core.Path.{_≡_};
 ghost use Rattle.meaning.specs.Operation.{parse, isSome};
-ghost use Rattle.operation.specs.Handing.{nameOf, fromOf, sizeOf, HandsOut};
+ghost use Rattle.operation.specs.Handing.{nameOf, fromOf, sizeOf, handedAt};
 
 // An operation. The value of a set lies in the list: where it starts, and its length.
 pub enum Op {
@@ -22,7 +22,7 @@ pub enum Handed {
 
 // The operation at a position of a list; the end for every position past its last octet.
 pub fn operation_at(list: &[u8], at: usize) -> Handed
-    ensures { λ r. ⌜ HandsOut (now (list .entry)) at r ⌝ }
+    ensures { λ r. ⌜ r ≡ handedAt (now (list .entry)) at ⌝ }
 {
     if list.len() <= at {
         return Handed::End;
@@ -72,7 +72,7 @@ pub fn reader_of<'a>(list: &'a [u8]) -> Reader<'a>
 
 // What a reader hands out at its position.
 pub fn next<'a>(r: Reader<'a>) -> Handed
-    ensures { λ h. ⌜ HandsOut (now (r .entry .list)) (r .entry .at) h ⌝ }
+    ensures { λ h. ⌜ h ≡ handedAt (now (r .entry .list)) (r .entry .at) ⌝ }
 {
     operation_at(r.list, r.at)
 }
@@ -86,7 +86,7 @@ pub fn moved<'a>(r: Reader<'a>, at: usize) -> Reader<'a>
 
 // What a reader of a list hands out at a position. Its parameters are plain, so whoever calls it is proved without a walk of the code.
 pub fn hand_out(list: &[u8], at: usize) -> Handed
-    ensures { λ r. ⌜ HandsOut (now (list .entry)) at r ⌝ }
+    ensures { λ r. ⌜ r ≡ handedAt (now (list .entry)) at ⌝ }
 {
     next(moved(reader_of(list), at))
 }

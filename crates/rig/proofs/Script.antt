@@ -16,6 +16,7 @@ use Rattle.stdio.specs.Taking.{Piece, Between, pieceAt, wholeAt, goesOn, lineAt
 use Rattle.stdio.proofs.Taking.{Joins, turn, cut-off, cut-out}
 use Rattle.text.specs.Answers.{Port}
 use Rattle.script.specs.Takes.{Lends, Takes}
+use Rattle.script.proofs.Lend.{front-is}
 use Rattle.script.specs.declared.Lent.{Lent}
 use Rattle.script.specs.declared.Took.{Took}
 use Rattle.script.specs.declared.Took.the-variants as took
@@ -34,7 +35,7 @@ module _ (held out : List ℕ) (p : Between Port) (memory room : List ℕ) (lent
   unfolding goesOn lineAt next effectOf
   instruction-turn {to} {lends} f =
       let b : Takes (pieceAt 3 held from .first) (pieceAt 3 held from .body) memory room lent out at (took.Line to lends) memory′ room′ out′ = rw f at of-piece in
-      (b .1 .short, b .1 .lends, turn instructions (omega arith) held out p (port memory room lent from) at j k (rw (w, b .0)) (rw (b .1 .memoryIs, b .1 .roomIs, e)) (b .1 .wrote))
+      (b .1 .short, b .1 .lends, turn instructions (omega arith) held out p (port memory room lent from) at j k (rw (w, b .0)) (rw (front-is memory _ (b .1 .memoryIs), front-is room _ (b .1 .roomIs), e)) (b .1 .wrote))
 
   pub instruction-faulty : {to : ℕ} {out″ : List ℕ} → r ≡ took.Faulty → Wrote out′ at cutLine to out″
       → Faulty instructions held from × (taken instructions held (port memory′ room′ lent from) ≡ taken instructions held p) × (take to out″ ++ [] ≡ lines instructions held p)

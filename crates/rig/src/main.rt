@@ -6,7 +6,8 @@ use stdio::Input;
 use stdio::Next;
 ghost use Prim.Native.Nat.{_≤_};
 ghost use mathlib.Core.Path.{_≡_};
-ghost use lib.ListN.{length, take};
+ghost use lib.ListN.{length};
+ghost use Rattle.meaning.specs.Octets.{splice};
 ghost use Rattle.meaning.specs.Memory.{fresh};
 ghost use Rattle.stdio.specs.Taking.{Batched};
 ghost use Rattle.script.specs.Takes.{Lends, Ready};
@@ -144,7 +145,7 @@ fn run(memory: &mut [u8], block: &mut [u8], room: &mut [u8], out: &mut [u8])
 // What is lent at first: fresh memory.
 fn start(memory: &mut [u8])
     requires { ⌜ length (now memory) ≡ 2200 ⌝ }
-    ensures { λ _. ⌜ take 2100 (now (memory .exit)) ≡ fresh ⌝ }
+    ensures { λ _. ⌜ now (memory .exit) ≡ splice (now (memory .entry)) 0 fresh ⌝ }
 {
     endpoint::make_fresh(&mut memory[..endpoint::MEMORY_LENGTH]);
 }

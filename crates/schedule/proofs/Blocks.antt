@@ -18,6 +18,7 @@ use Rattle.meaning.proofs.Tests.{and-left, and-right, and-both, every-at, alike
 use Rattle.meaning.proofs.Values.{permits-opened}
 use Rattle.meaning.proofs.Commit.{form-joined}
 use Rattle.octets.proofs.Splices.{then}
+use Rattle.schedule.specs.Rules.{fitTogether}
 
 pub joined-length : (b c l r : List ℕ) → length (joinedBlock b c l r) ≡ length b + length c + length l + length r
 unfolding joinedBlock
@@ -162,9 +163,8 @@ split-joined b h =
     ap (λ (t : List ℕ). take 4 (drop 10 b) ++ t) (sym (drop-drop 4 10 b)) ∙ take-append-drop 4 (drop 10 b) in
     rw (last, d₃, d₂) (take-append-drop 10 b)
 
-in-order : (a b c : Bool) → (a && (b && c)) ≡ (b && (a && (c && true)))
-in-order true true c = sym (and-true c)
-in-order true false c = refl
+in-order : (a b c : Bool) → (a && (b && c)) ≡ (b && (a && c))
+in-order true b c = refl
 in-order false true c = refl
 in-order false false c = refl
 
@@ -198,22 +198,27 @@ module _ (b c l r : List ℕ) (pb : permits (rowAt adminBaseTime) b ≡ true) (p
   permitted-length = omega (arith, joined-length b c l r, permitted-base b pb .0, permitted-count c pc .0, permitted-ratio r pr .0)
 
   -- each keeps its rule, so form and fit is how they fit one another
-  fit-is : (leb 1 (length l / 7) && (eqb (asNumber c) (length l / 7) && leb (intervals (entriesOf l)) (cycle r))) ≡ formAndFit (joinedBlock b c l r)
-  unfolding every
+  pub fit-is : fitTogether c l r ≡ formAndFit (joinedBlock b c l r)
+  unfolding every fitTogether
   fit-is =
       let hb = permitted-base b pb in
       let hc = permitted-count c pc in
       let hr = permitted-ratio r pr in
       rw (form-joined b c l r (hb .0) (hc .0) (hr .0), le-leb 22 (22 + length l) (omega arith), hb .1, le-leb (asNumber c) 64 (hc .1), permitted-list l pl .1, hr .1)
-      (in-order (leb 1 (length l / 7)) (eqb (asNumber c) (length l / 7)) (leb (intervals (entriesOf l)) (cycle r)))
+      (in-order (leb 1 (length l / 7)) (eqb (asNumber c) (length l / 7)) (leb (intervals (entriesOf l)) (cycle r) && true))
 
-  -- with no entry, with another number in 0005, and by the intervals where there is neither
-  pub fit-none : length l / 7 < 1 → formAndFit (joinedBlock b c l r) ≡ false
-  fit-none h = rw (lt-leb 1 (length l / 7) h) at (sym fit-is)
+-- ---- how three values fit one another: with no entry, with another number in 0005, and by the intervals where there is neither
+
+module _ (c l r : List ℕ) where
+  pub fit-none : length l / 7 < 1 → fitTogether c l r ≡ false
+  unfolding fitTogether every
+  fit-none h = rw (lt-leb 1 (length l / 7) h)
 
   module _ {n : ℕ} (h : 1 ≤ length l / 7) (e : n ≡ asNumber c) where
-    pub fit-unheld : n ≢ length l / 7 → formAndFit (joinedBlock b c l r) ≡ false
-    fit-unheld u = rw (le-leb 1 (length l / 7) h, ne-eqb (asNumber c) (length l / 7) (λ p. u (e ∙ p))) at (sym fit-is)
+    pub fit-unheld : n ≢ length l / 7 → fitTogether c l r ≡ false
+    unfolding fitTogether every
+    fit-unheld u = rw (le-leb 1 (length l / 7) h, ne-eqb (asNumber c) (length l / 7) (λ p. u (e ∙ p)))
 
-    pub fit-held : n ≡ length l / 7 → formAndFit (joinedBlock b c l r) ≡ leb (intervals (entriesOf l)) (cycle r)
-    fit-held u = rw (le-leb 1 (length l / 7) h, eq-eqb (asNumber c) (length l / 7) (sym e ∙ u)) at (sym fit-is)
+    pub fit-held : n ≡ length l / 7 → fitTogether c l r ≡ leb (intervals (entriesOf l)) (cycle r)
+    unfolding fitTogether every
+    fit-held u = rw (le-leb 1 (length l / 7) h, eq-eqb (asNumber c) (length l / 7) (sym e ∙ u)) (and-true (leb (intervals (entriesOf l)) (cycle r)))

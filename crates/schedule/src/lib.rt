@@ -1,15 +1,15 @@
 // Schedules: which value keeps which rule, the two sums over a block, its form and fit, a commit's conditions.
 // A block is four values one behind another (RULES 8.1); every answer is that of a definition of `meaning`.
-ghost use Prim.Native.Nat.{ℕ, _+_, _*_, _%_, _≤_};
+ghost use Prim.Native.Nat.{_+_, _*_, _%_, _≤_};
 ghost use mathlib.Core.Path.{_≡_};
 ghost use mathlib.Core.Bool.{true, _&&_};
-ghost use mathlib.Core.List.{List, _++_};
+ghost use mathlib.Core.List.{_++_};
 ghost use lib.ListN.{length};
 ghost use lib.Dec.{eqb};
 ghost use Rattle.meaning.specs.Octets.{be16, splice, same};
-ghost use Rattle.meaning.specs.Table.{rowAt, adminBaseTime, adminControlListLength, adminControlList, adminCycleTime};
+ghost use Rattle.meaning.specs.Table.{rowAt, adminControlListLength, adminControlList, adminCycleTime};
 ghost use Rattle.meaning.specs.Block.{sumsFrom, sumsOf, sums, joinedBlock, formAndFit, keeps, permits};
-ghost use Rattle.schedule.specs.Rules.{ruleOf, asked};
+ghost use Rattle.schedule.specs.Rules.{ruleOf, asked, fitTogether};
 
 // The rules of the table's rows.
 pub enum Rule {
@@ -115,11 +115,11 @@ pub fn form_and_fit(b: &[u8]) -> bool
     )
 }
 
-// Form and fit of the block that a base time and these values make, each permitted by its row. They keep their rules, so what
-// is left is how they fit one another (RULES 8.3 to 8.5). No base time enters that.
+// How values fit one another, each permitted by its row (RULES 8.3 to 8.5). They keep their rules, so this is form and fit of
+// the block that they make with any base time (law `fit-is`).
 pub fn fit_together(count: &[u8], list: &[u8], ratio: &[u8]) -> bool
     requires { ⌜ (permits (rowAt adminControlListLength) (now count) ≡ true) × (permits (rowAt adminControlList) (now list) ≡ true) × (permits (rowAt adminCycleTime) (now ratio) ≡ true) ⌝ }
-    ensures { λ r. ⌜ ((base : List ℕ) → permits (rowAt adminBaseTime) base ≡ true → r ≡ formAndFit (joinedBlock base (now (count .entry)) (now (list .entry)) (now (ratio .entry)))) ⌝ }
+    ensures { λ r. ⌜ r ≡ fitTogether (now (count .entry)) (now (list .entry)) (now (ratio .entry)) ⌝ }
 {
     let n = list.len() / values::ENTRY_LENGTH;
     if n < 1 {

@@ -2,10 +2,10 @@
 use Prim.Native.Nat.{ℕ, _+_, _-_, _≤_}
 use native.Mathlib.Nat.{zero-add}
 use native.Mathlib.Omega.{arith}
-use mathlib.Core.Path.{_≡_, refl, _∙_}
+use mathlib.Core.Path.{_≡_, sym, _∙_}
 use mathlib.Core.List.{List, _++_}
-use lib.ListN.{length, take, drop, replicate, length-drop, length-replicate}
-use lib.Seq.{take-at, take-all}
+use lib.ListN.{length, take, drop, replicate, length-drop, length-replicate, take-append-drop}
+use lib.Seq.{drop-at, take-all, length-take-le}
 use Rattle.meaning.specs.Octets.{splice}
 use Rattle.meaning.specs.Delay.{lowFirst, delay}
 use Rattle.meaning.specs.Calls.{Outcome}
@@ -18,10 +18,35 @@ use Rattle.script.specs.Instructions.{Effect, roomLength, anew, printed,
 use Rattle.script.specs.Takes.{Lends, Leaves}
 use Rattle.script.specs.declared.Lent.{Lent}
 
+-- ---- the front of an array
+
+-- what was written at the front is found there
+pub front-is : (s v : List ℕ) {n : ℕ} {s′ : List ℕ} → Wrote s 0 v n s′ → take n s′ ≡ v
+front-is s v w = rw (w .0, w .1, zero-add) (splice-front s v)
+
+-- a front that stays
+pub front-kept : (s : List ℕ) (n : ℕ) → n ≤ length s → Wrote s 0 (take n s) n s
+unfolding splice
+front-kept s n h =
+    let l : 0 + length (take n s) ≡ n = zero-add _ ∙ length-take-le n s h in
+    (sym l, rw l (sym (take-append-drop n s)))
+
+-- a front that was lent and came back, after something as long was written there
+pub front-back : (s v w : List ℕ) {n : ℕ} {s₁ : List ℕ} → Wrote s 0 v n s₁ → length w ≡ n → Wrote s 0 w n (w ++ drop n s₁)
+unfolding splice
+front-back s v w {n} e l =
+    let k : 0 + length v ≡ n = sym (e .0) in
+    let m : 0 + length w ≡ n = zero-add _ ∙ l in
+    let d : drop n (v ++ drop n s) ≡ drop n s = drop-at v (drop n s) n (sym (zero-add _) ∙ k) in
+    (sym m, rw (e .1, k, d, m))
+
 -- a room's front, filled
-pub made : (room filled : List ℕ) (asked n : ℕ) → n ≡ roomLength asked → filled ≡ replicate n 0xA5 ++ drop n room → take n filled ≡ anew asked
-unfolding anew
-made room filled asked n e f = rw (f, take-at (replicate n 0xA5) (drop n room) n (length-replicate n 0xA5), e)
+pub made : (room filled : List ℕ) (asked n : ℕ) → n ≡ roomLength asked → filled ≡ replicate n 0xA5 ++ drop n room → Wrote room 0 (anew asked) n filled
+unfolding anew splice
+made room filled asked n e f =
+    let v : List ℕ = replicate (roomLength asked) 0xA5 in
+    let l : 0 + length v ≡ n = zero-add (length v) ∙ length-replicate (roomLength asked) 0xA5 ∙ sym e in
+    (sym l, rw (l, ← e) f)
 
 -- all that follows the first k octets
 pub rest-is : (s : List ℕ) (k : ℕ) → take (length s - k) (drop k s) ≡ drop k s
@@ -34,32 +59,40 @@ delay-short n = omega (arith, octets-short (delay n))
 module _ (out : List ℕ) (at : ℕ) (lent : Lent) {end : ℕ} {out′ : List ℕ} {d : Effect} (b : Lends lent) where
   -- a line alone: memory and room stay
   pub line-left : (line m room : List ℕ) → d ≡ printed line (take (lent .memory) m) (take (lent .room) room) → Wrote out at line end out′ → length line ≤ 16389
-      → Leaves d out at end lent m room out′
-  line-left line m room e w s = rw e (record { wrote = w; short = omega arith; lends = b; memoryIs = refl; roomIs = refl })
+      → length m ≡ 2200 → length room ≡ 8192 → Leaves d m room out at end lent m room out′
+  line-left line m room e w s l k =
+      rw e
+      (record {
+        wrote = w;
+        short = omega arith;
+        lends = b;
+        memoryIs = front-kept m (lent .memory) (omega (arith, l, b .0));
+        roomIs = front-kept room (lent .room) (omega (arith, k, b .1));
+      })
 
   -- a call
-  pub call-left : (o : Outcome) (m′ m room′ room : List ℕ) → d ≡ answered o → Answers o out at end m′ room′ out′ → end ≤ at + 16389
-      → length m′ ≡ lent .memory → length room′ ≡ lent .room → Leaves d out at end lent (m′ ++ drop (lent .memory) m) (room′ ++ drop (lent .room) room) out′
-  call-left o m′ m room′ room e a s l k =
+  pub call-left : (o : Outcome) (m′ m room′ room room₁ last : List ℕ) → d ≡ answered o → Answers o out at end m′ room′ out′ → end ≤ at + 16389
+      → length m ≡ 2200 → Wrote room 0 last (lent .room) room₁ → length m′ ≡ lent .memory → length room′ ≡ lent .room
+      → Leaves d m room out at end lent (m′ ++ drop (lent .memory) m) (room′ ++ drop (lent .room) room₁) out′
+  call-left o m′ m room′ room room₁ last e a s n f l k =
       rw e
       (record {
         wrote = a .wrote;
         short = s;
         lends = b;
-        memoryIs = take-at m′ (drop (lent .memory) m) (lent .memory) l ∙ a .memoryIs;
-        roomIs = take-at room′ (drop (lent .room) room) (lent .room) k ∙ a .roomIs;
+        memoryIs = rw (← a .memoryIs) (front-back m (take (lent .memory) m) m′ (front-kept m (lent .memory) (omega (arith, n, b .0))) l);
+        roomIs = rw (← a .roomIs) (front-back room last room′ f k);
       })
 
   -- other memory
-  pub lend-left : (body m m′ room : List ℕ) → d ≡ printed (lentLine (length body)) body (take (lent .room) room) → lent .memory ≡ 0 + length body → m′ ≡ splice m 0 body
-      → Wrote out at (lentLine (lent .memory)) end out′ → Leaves d out at end lent m′ room out′
-  lend-left body m m′ room e n f w =
-      let k : lent .memory ≡ length body = n ∙ zero-add (length body) in
+  pub lend-left : (body m m′ room : List ℕ) → d ≡ printed (lentLine (length body)) body (take (lent .room) room) → Wrote m 0 body (lent .memory) m′ → length room ≡ 8192
+      → Wrote out at (lentLine (lent .memory)) end out′ → Leaves d m room out at end lent m′ room out′
+  lend-left body m m′ room e f k w =
       rw e
       (record {
-        wrote = rw k at w;
+        wrote = rw (f .0 ∙ zero-add (length body)) at w;
         short = omega (arith, w .0, lent-short (lent .memory));
         lends = b;
-        memoryIs = rw (k, f) (splice-front m body);
-        roomIs = refl;
+        memoryIs = f;
+        roomIs = front-kept room (lent .room) (omega (arith, k, b .1));
       })

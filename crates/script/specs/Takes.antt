@@ -18,16 +18,16 @@ Lends lent = (lent .memory ≤ 2200) × (lent .room ≤ 8192)
 abbrev pub Ready : List ℕ → List ℕ → Lent → List ℕ → ℕ → Type 0
 Ready memory room lent out at = (length memory ≡ 2200) × (length room ≡ 8192) × Lends lent × (at + 16389 ≤ length out)
 
--- an instruction that had the effect d: its line has been written, and what is lent from now on is as it says
-pub record Leaves (d : Effect) (out : List ℕ) (at end : ℕ) (lent : Lent) (memory room out′ : List ℕ) : Type 0 where
+-- an instruction that had the effect d: its line has been written, what is lent from now on is as it says, and what the arrays hold behind it stays
+pub record Leaves (d : Effect) (memory room out : List ℕ) (at end : ℕ) (lent : Lent) (memory′ room′ out′ : List ℕ) : Type 0 where
   pub wrote : Wrote out at (d .line) end out′
   pub short : end ≤ at + 16389
   pub lends : Lends lent
-  pub memoryIs : take (lent .memory) memory ≡ d .memory
-  pub roomIs : take (lent .room) room ≡ d .room
+  pub memoryIs : Wrote memory 0 (d .memory) (lent .memory) memory′
+  pub roomIs : Wrote room 0 (d .room) (lent .room) room′
 
 -- an instruction is taken where its body is right, and then does what its definition says of what was lent; else nothing is changed
 abbrev pub Takes : ℕ → List ℕ → List ℕ → List ℕ → Lent → List ℕ → ℕ → Took → List ℕ → List ℕ → List ℕ → Type 0
 Takes code body memory room lent out at (Line end lends) memory′ room′ out′ =
-    (bodyRight code (length body) ≡ true) × Leaves (effect code body (take (lent .memory) memory) (take (lent .room) room)) out at end lends memory′ room′ out′
+    (bodyRight code (length body) ≡ true) × Leaves (effect code body (take (lent .memory) memory) (take (lent .room) room)) memory room out at end lends memory′ room′ out′
 Takes code body memory room lent out at Faulty memory′ room′ out′ = (bodyRight code (length body) ≡ false) × (memory′ ≡ memory) × (room′ ≡ room) × (out′ ≡ out)

@@ -63,7 +63,7 @@ fn room_length(asked: usize) -> usize
 // A room made anew, of the length that is asked for; its length.
 fn make_room(room: &mut [u8], asked: usize) -> usize
     requires { ⌜ length (now room) ≡ 8192 ⌝ }
-    ensures { λ r. ⌜ (r ≤ 8192) × (take r (now (room .exit)) ≡ anew asked) ⌝ }
+    ensures { λ r. ⌜ (r ≤ 8192) × Wrote (now (room .entry)) 0 (anew asked) r (now (room .exit)) ⌝ }
 {
     let n = room_length(asked);
     let mut i = 0;
@@ -77,7 +77,7 @@ fn make_room(room: &mut [u8], asked: usize) -> usize
 // The room that a call is lent: made anew where its instruction asks for one, else that of the last; its length.
 fn room_for(room: &mut [u8], last: usize, code: u8, body: &[u8]) -> usize
     requires { ⌜ (length (now room) ≡ 8192) × (last ≤ 8192) × (bodyRight code (length (now body)) ≡ true) ⌝ }
-    ensures { λ r. ⌜ (r ≤ 8192) × (take r (now (room .exit)) ≡ roomFor code (now (body .entry)) (take last (now (room .entry)))) ⌝ }
+    ensures { λ r. ⌜ (r ≤ 8192) × Wrote (now (room .entry)) 0 (roomFor code (now (body .entry)) (take last (now (room .entry)))) r (now (room .exit)) ⌝ }
 {
     match code {
         1 | 3 => make_room(room, octets::get16(body, 0)),

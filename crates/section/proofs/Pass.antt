@@ -22,7 +22,8 @@ use Rattle.operation.specs.Handing.{opOf}
 use Rattle.operation.proofs.Handed.{the-type}
 use Rattle.operation.proofs.Turns.{HandsOut}
 use Rattle.command.specs.declared.Answer.{Answer}
-use Rattle.command.specs.Answers.{answerOf}
+use Rattle.command.specs.Answers.{told}
+use Rattle.command.proofs.Told.{told-back}
 use Rattle.command.proofs.Walk.{Under, rest, under-start, under-end, under-rest, under-turn}
 use Rattle.section.specs.declared.Places.{Places}
 use Rattle.section.specs.declared.RunningSums.{RunningSums}
@@ -73,12 +74,12 @@ module _ (starts : Places) (m list out₀ copy out : List ℕ) (c : Places) (kno
       let e = under-end m list copy from (u .under) h hands t in
       (e .1, filling-end (u .remains) (λ k. ap (λ (os : List _). section k (records copy os)) (e .0) ∙ section-none k copy) .written)
 
-  module _ (o : Op) (next : ℕ) (e : h ≡ Operation o next) (copy′ : List ℕ) (a : Answer) (q : copy′ ≡ step copy (opOf list o)) (b : answerOf copy′ list o a ≡ answer copy (opOf list o)) where
+  module _ (o : Op) (next : ℕ) (e : h ≡ Operation o next) (copy′ : List ℕ) (a : Answer) (q : copy′ ≡ step copy (opOf list o)) (b : a ≡ told (answer copy (opOf list o))) where
     -- the record of this turn, and those to come
     turned : (k : Kind) → left copy list from k ≡ shares copy′ list o a k ++ left copy′ list next k
     unfolding records gathered answers
     turned k =
-        rw (under-rest m list copy from (u .under) h hands o next e, b, q)
+        rw (under-rest m list copy from (u .under) h hands o next e, told-back copy list o copy′ a q b .0, q)
         (section-joined k (recordOf (answer copy (opOf list o))) (gathered (answers (step copy (opOf list o)) (rest list next))))
 
     pub turn-fits : Apart 0 order (placeOf c) (shares copy′ list o a) (length out)

@@ -16,7 +16,7 @@ ghost use Rattle.octets.specs.Filling.{fill, Apart, Filled};
 ghost use Rattle.command.specs.Answers.{InTable};
 ghost use Rattle.section.specs.Kinds.{order, sections};
 ghost use Rattle.section.specs.Places.{placeOf, shares};
-ghost use Rattle.section.specs.Knowing.{AreSums, Knows, Keeps};
+ghost use Rattle.section.specs.Knowing.{runningSums, Knows, keptAfter, learntFrom};
 use command::Answer;
 use operation::Handed;
 use operation::Op;
@@ -33,7 +33,7 @@ pub enum RunningSums {
 // The sums of the running block; where they are known, the block is not looked at.
 fn running_sums(m: &[u8], known: RunningSums) -> Sums
     requires { ⌜ (length (now m) ≡ memoryLength) × Knows (now m) known ⌝ }
-    ensures { λ r. ⌜ AreSums (now (m .entry)) r ⌝ }
+    ensures { λ r. ⌜ r ≡ runningSums (now (m .entry)) ⌝ }
 {
     match known {
         RunningSums::Known(s) => s,
@@ -43,7 +43,7 @@ fn running_sums(m: &[u8], known: RunningSums) -> Sums
 
 // What is still known after an operation: no other than a set of 8001 changes the running block.
 fn kept(known: RunningSums, op: Op) -> RunningSums
-    ensures { λ r. ⌜ Keeps known op r ⌝ }
+    ensures { λ r. ⌜ r ≡ keptAfter op known ⌝ }
 {
     let Op::Set(name, _, _) = op else {
         return known;
@@ -58,7 +58,7 @@ fn kept(known: RunningSums, op: Op) -> RunningSums
 // What is known where an operation has this answer: a read of 8001 finds the sums for those after it.
 fn learnt(m: &[u8], a: Answer, known: RunningSums) -> RunningSums
     requires { ⌜ (length (now m) ≡ memoryLength) × Knows (now m) known ⌝ }
-    ensures { λ r. ⌜ Knows (now (m .entry)) r ⌝ }
+    ensures { λ r. ⌜ r ≡ learntFrom (now (m .entry)) a known ⌝ }
 {
     let Answer::Value(k) = a else {
         return known;

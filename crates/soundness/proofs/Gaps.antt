@@ -4,7 +4,7 @@ use native.Mathlib.Omega.{arith}
 use native.Mathlib.Nat.{add-sub-of-le, sub-zero, suc-sub-suc}
 use native.Mathlib.Numerals.{add-one}
 use mathlib.Core.Path.{_≡_, refl, sym, ap, _∙_}
-use mathlib.Core.Bool.{Bool, true, _&&_, and-assoc}
+use mathlib.Core.Bool.{Bool, true, false, cond, _&&_, and-assoc}
 use mathlib.Core.List.{List, [], _∷_, _++_}
 use lib.ListN.{take, drop}
 use lib.Seq.{drop-drop, take-add, take-nil}
@@ -14,7 +14,8 @@ use Rattle.meaning.specs.Octets.{part, blank, below}
 use Rattle.meaning.specs.Table.{rows, rowAt, rooms, roomAt}
 use Rattle.meaning.specs.Memory.{cell, room, size}
 use Rattle.meaning.proofs.Tests.{below-at}
-use Rattle.soundness.specs.Fields.{tailAt}
+use Rattle.soundness.specs.declared.Gap.{Gap}
+use Rattle.soundness.specs.Fields.{tailAt, gapAt}
 
 -- ---- rooms follow each other
 
@@ -54,15 +55,31 @@ drop-part s i n j = drop-take j n (drop i s) ∙ rw drop-drop
 -- ---- a gap grows by a room without a value, or ends at a value
 
 module _ (m : List ℕ) (k end : ℕ) (h : k < 19) (e : end ≤ roomAt k) where
-  pub gap-grows : size (cell m k) ≡ 0 → blank (part m end (roomAt (k + 1) - end)) ≡ (blank (part m end (roomAt k - end)) && tailAt m k)
+  gap-grows : size (cell m k) ≡ 0 → blank (part m end (roomAt (k + 1) - end)) ≡ (blank (part m end (roomAt k - end)) && tailAt m k)
   unfolding tailAt room
   gap-grows z =
       let n : roomAt (k + 1) - end ≡ roomAt k - end + rowAt k .most = omega (arith, room-next k h) in
       let p : end + (roomAt k - end) ≡ roomAt k = add-sub-of-le e in
       rw (n, z, part-more m end (roomAt k - end) (rowAt k .most), p) (blank-append (part m end (roomAt k - end)) (part m (roomAt k) (rowAt k .most)))
 
-  pub gap-ends : (j : ℕ) → j ≡ size (cell m k) → blank (part m (roomAt k + j) (roomAt (k + 1) - (roomAt k + j))) ≡ tailAt m k
+  gap-ends : blank (part m (roomAt k + size (cell m k)) (roomAt (k + 1) - (roomAt k + size (cell m k)))) ≡ tailAt m k
   unfolding tailAt room
-  gap-ends j q =
+  gap-ends =
+      let j = size (cell m k) in
       let n : roomAt (k + 1) - (roomAt k + j) ≡ rowAt k .most - j = omega (arith, room-next k h) in
-      rw (n, sym q) (ap blank (sym (drop-part m (roomAt k) (rowAt k .most) j)))
+      rw n (ap blank (sym (drop-part m (roomAt k) (rowAt k .most) j)))
+
+  -- what was looked at and what is looked at next, up to the next room, are the octets before this room and this one's tail
+  pub gap-joins : size (cell m k) ≤ rowAt k .most
+      → ((gapAt m k end .blank && blank (part m (gapAt m k end .end) (roomAt (k + 1) - gapAt m k end .end))) ≡ (blank (part m end (roomAt k - end)) && tailAt m k))
+      × (gapAt m k end .end ≤ roomAt (k + 1))
+  unfolding gapAt
+  gap-joins l = go (eqb (size (cell m k)) 0) refl
+    where
+      grown : Bool → Gap
+      grown b = cond b (record { blank = true; end = end }) (record { blank = blank (part m end (roomAt k - end)); end = roomAt k + size (cell m k) })
+
+      go : (b : Bool) → eqb (size (cell m k)) 0 ≡ b
+          → ((grown b .blank && blank (part m (grown b .end) (roomAt (k + 1) - grown b .end))) ≡ (blank (part m end (roomAt k - end)) && tailAt m k)) × (grown b .end ≤ roomAt (k + 1))
+      go true z = (gap-grows (eqb-true (size (cell m k)) 0 z), omega (arith, room-next k h, e))
+      go false z = (ap (λ (t : Bool). blank (part m end (roomAt k - end)) && t) gap-ends, omega (arith, room-next k h, l))

@@ -1,13 +1,14 @@
 -- The test of sound memory in three parts: what the entries hold, that the octets past each length are zero, what is asked across entries.
-use Prim.Native.Nat.{ℕ}
-use mathlib.Core.Bool.{Bool, _&&_, cond}
+use Prim.Native.Nat.{ℕ, _+_, _-_}
+use mathlib.Core.Bool.{Bool, true, _&&_, cond}
 use mathlib.Core.List.{List, [], _∷_}
 use lib.ListN.{take, drop}
 use lib.Dec.{eqb, leb, ltb}
-use Rattle.meaning.specs.Octets.{octet, at16, blank, every, below, implies}
-use Rattle.meaning.specs.Table.{Row, rowAt, byPort, entryCount, gateEnabled, supportedListMax, commit}
+use Rattle.meaning.specs.Octets.{octet, at16, part, blank, every, below, implies}
+use Rattle.meaning.specs.Table.{Row, rowAt, roomAt, byPort, entryCount, gateEnabled, supportedListMax, commit}
 use Rattle.meaning.specs.Block.{permits}
 use Rattle.meaning.specs.Memory.{cell, room, isPresent, isSubscribed, isPending, size, flagLimit, present, timer, fourPresent, timerSound}
+use Rattle.soundness.specs.declared.Gap.{Gap}
 
 -- name, zero octet, flags, marks
 unfoldable pub cellSound : Row → List ℕ → Bool
@@ -29,6 +30,13 @@ fieldsAt m k = fieldsSound (rowAt k) (cell m k) (room m k)
 
 unfoldable pub tailAt : List ℕ → ℕ → Bool
 tailAt m k = blank (drop (size (cell m k)) (room m k))
+
+-- the octets between the value before an entry, which ends at `end`, and its own: where it has none they go on, else they are looked at
+-- and the next ones start behind it
+unfoldable pub gapAt : List ℕ → ℕ → ℕ → Gap
+gapAt m k end =
+    let n = size (cell m k) in
+    cond (eqb n 0) (record { blank = true; end = end }) (record { blank = blank (part m end (roomAt k - end)); end = roomAt k + n })
 
 unfoldable pub allFields : List ℕ → Bool
 allFields m = below entryCount (fieldsAt m)

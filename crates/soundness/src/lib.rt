@@ -1,16 +1,15 @@
 // Sound memory: whether lent octets, of any length, are sound port memory.
 // First what the entries hold, then the octets between the values; all of them are looked at, with no early exit in a scan.
-ghost use Prim.Native.Nat.{_+_, _-_, _≤_, _<_};
+ghost use Prim.Native.Nat.{_≤_, _<_};
 ghost use mathlib.Core.Path.{_≡_};
-ghost use mathlib.Core.Bool.{true, cond, _&&_};
+ghost use mathlib.Core.Bool.{true, cond};
 ghost use mathlib.Core.List.{[], _∷_};
 ghost use lib.ListN.{length};
 ghost use lib.Dec.{eqb};
-ghost use Rattle.meaning.specs.Octets.{part, blank};
 ghost use Rattle.meaning.specs.Table.{entryCount, memoryLength, rowAt, roomAt};
 ghost use Rattle.meaning.specs.Block.{permits};
 ghost use Rattle.meaning.specs.Memory.{cell, isPresent, size, timerSound, sound};
-ghost use Rattle.soundness.specs.Fields.{cellSound, fieldsAt, tailAt, allFields, allTails, acrossSound};
+ghost use Rattle.soundness.specs.Fields.{cellSound, fieldsAt, gapAt, allFields, allTails, acrossSound};
 
 // Name, zero octet and flags of a cell (RULES 5.2 to 5.6).
 fn cell_sound(k: usize, c: &[u8]) -> bool
@@ -90,7 +89,7 @@ pub struct Gap {
 // tails before them, so one scan covers all between two values.
 fn gap_at(m: &[u8], k: usize, end: usize) -> Gap
     requires { ⌜ (length (now m) ≡ memoryLength) × (k < entryCount) × (end ≤ roomAt k) × (size (cell (now m) k) ≤ rowAt k .most) ⌝ }
-    ensures { λ r. ⌜ ((r .blank && blank (part (now (m .entry)) (r .end) (roomAt (k + 1) - r .end))) ≡ (blank (part (now (m .entry)) end (roomAt k - end)) && tailAt (now (m .entry)) k)) × (r .end ≤ roomAt (k + 1)) ⌝ }
+    ensures { λ r. ⌜ r ≡ gapAt (now (m .entry)) k end ⌝ }
 {
     let n = memory::size(memory::cell(m, k));
     if n == 0 {

@@ -1,5 +1,5 @@
 -- What is held of the input: how long a piece is, the rest of one moved to the front.
-use Prim.Native.Nat.{ℕ, _+_, _-_, _≤_, _<_}
+use Prim.Native.Nat.{ℕ, _+_, _-_, _*_, _≤_, _<_}
 use native.Mathlib.Numerals.{add-one}
 use native.Mathlib.Omega.{arith}
 use mathlib.Core.Path.{_≡_, sym, ap, ap₂, _∙_}
@@ -12,7 +12,8 @@ use borrow.Author.Tests.{le-leb, lt-leb}
 use Rattle.meaning.specs.Octets.{at16, part, splice}
 use Rattle.meaning.proofs.Lists.{length-part}
 use Rattle.octets.proofs.Splices.{splice-front}
-use Rattle.stdio.specs.Pieces.{needed, Reads, Continues}
+use Rattle.stdio.specs.Pieces.{needed, nextAt, Reads, Continues}
+use Rattle.stdio.specs.declared.Next.the-variants.{Whole, More}
 use Rattle.stdio.specs.declared.Got.{Got}
 use Rattle.stdio.specs.declared.Got.the-variants.{Octets}
 use Rattle.stdio.specs.declared.Input.{Input}
@@ -35,6 +36,24 @@ needed-least s from head = go (leb (from + head) (length s))
     go : (b : Bool) → head ≤ cond b (head + at16 s (from + head - 2)) head
     go true = omega arith
     go false = omega arith
+
+pub needed-most : (s : List ℕ) (from head : ℕ) → ((i : ℕ) → getD s i 0 < 256) → needed s from head ≤ head + 65535
+unfolding needed at16
+needed-most s from head octets = go (leb (from + head) (length s))
+  where
+    go : (b : Bool) → cond b (head + (getD s (from + head - 2) 0 * 256 + getD s (from + head - 2 + 1) 0)) head ≤ head + 65535
+    go true = omega (arith, octets (from + head - 2), octets (from + head - 2 + 1))
+    go false = omega arith
+
+-- a piece that is there, and one of which octets are missing
+module _ (s : List ℕ) (from head : ℕ) {n : ℕ} (e : n ≡ needed s from head) where
+  pub next-whole : {end : ℕ} → end ≡ from + n → end ≤ length s → Whole end ≡ nextAt s from head
+  unfolding nextAt
+  next-whole f h = rw (← e, le-leb (from + n) (length s) (omega (arith, f, h))) (ap Whole f)
+
+  pub next-more : length s < from + n → More ≡ nextAt s from head
+  unfolding nextAt
+  next-more h = rw (← e, lt-leb (from + n) (length s) h)
 
 -- what is known where a read brought octets
 pub brought : (block : List ℕ) (at : ℕ) (block′ : List ℕ) {n : ℕ} {r : Got} → r ≡ Octets n → Reads block at r block′ → (1 ≤ n) × (at + n ≤ length block)

@@ -1,19 +1,20 @@
 -- Pieces taken one after another: one that can be taken is one turn, and at one that cannot there is nothing left to do.
-use Prim.Native.Nat.{ℕ, zero, suc, _+_, _-_, _≤_}
+use Prim.Native.Nat.{ℕ, zero, suc, _+_, _-_, _≤_, _<_}
 use native.Mathlib.Omega.{arith}
 use mathlib.Core.Path.{_≡_, refl, sym, ap, ap₂, subst, _∙_}
-use mathlib.Core.Bool.{true, false, cond, false≢true}
+use mathlib.Core.Bool.{Bool, true, false, cond, false≢true, true≢false}
 use mathlib.Core.List.{List, [], _++_, append-assoc, append-nil}
-use lib.ListN.{length, take, drop, length-append}
+use lib.ListN.{length, take, drop, getD, length-append}
+use lib.Dec.{leb}
 use lib.Seq.{take-at, length-take-le}
-use borrow.Author.Tests.{le-leb, lt-leb}
+use borrow.Author.Tests.{lt-leb, leb-true, leb-false}
 use Rattle.meaning.specs.Octets.{octet, part, splice}
 use Rattle.octets.specs.Writing.{Wrote}
-use Rattle.stdio.specs.Pieces.{needed, Found, cutLine}
+use Rattle.stdio.specs.Pieces.{needed, nextAt, cutLine}
 use Rattle.stdio.specs.Taking.{Program, Between, pieceAt, wholeAt, goesOn, lineAt, next, takenIn, linesIn, taken, lines, Faulty, Wanting}
 use Rattle.stdio.specs.declared.Next.{Next}
 use Rattle.stdio.specs.declared.Next.the-variants.{Whole, More}
-use Rattle.stdio.proofs.Held.{needed-least}
+use Rattle.stdio.proofs.Held.{needed-least, needed-most}
 
 -- ---- one piece more, or none
 
@@ -85,18 +86,39 @@ module _ {S : Type 0} (t : Program S) (h : 1 ≤ t .head) (held : List ℕ) wher
 
 -- ---- what is found of a piece
 
-pub found-whole : (head : ℕ) (held : List ℕ) (from : ℕ) {end : ℕ} {r : Next} → r ≡ Whole end → Found held from head r
-    → (end ≡ from + needed held from head) × (wholeAt head held from ≡ true) × (from + head ≤ end) × (end ≤ length held)
-unfolding wholeAt
-found-whole head held from {end} e f =
-    let g : Found held from head (Whole end) = rw e at f in
-    (g .0, le-leb (from + needed held from head) (length held) (omega (arith, g .0, g .2)), g .1, g .2)
+-- where it ends; 0 where more is to be read
+abbrev endOf : Next → ℕ
+endOf (Whole end) = end
+endOf More = 0
 
-pub found-more : {S : Type 0} (t : Program S) (held : List ℕ) (from : ℕ) {r : Next} → r ≡ More → Found held from (t .head) r → Wanting t held from
-unfolding wholeAt
-found-more t held from e f =
-    let g : Found held from (t .head) More = rw e at f in
-    (lt-leb (from + needed held from (t .head)) (length held) (g .0), g .1)
+abbrev isWhole : Next → Bool
+isWhole (Whole end) = true
+isWhole More = false
+
+pub found-whole : (head : ℕ) (held : List ℕ) (from : ℕ) {end : ℕ} {r : Next} → r ≡ Whole end → r ≡ nextAt held from head
+    → (end ≡ from + needed held from head) × (wholeAt head held from ≡ true) × (from + head ≤ end) × (end ≤ length held)
+unfolding wholeAt nextAt
+found-whole head held from {end} e f = go (leb n (length held)) refl (sym e ∙ f)
+  where
+    n : ℕ
+    n = from + needed held from head
+
+    go : (b : Bool) → leb n (length held) ≡ b → Whole end ≡ cond b (Whole n) More → (end ≡ n) × (leb n (length held) ≡ true) × (from + head ≤ end) × (end ≤ length held)
+    go true l g =
+        let k : end ≡ n = ap endOf g in
+        (k, l, omega (arith, k, needed-least held from head), omega (arith, k, leb-true n (length held) l))
+    go false l g = absurd (true≢false (ap isWhole g))
+
+pub found-more : {S : Type 0} (t : Program S) (held : List ℕ) (from : ℕ) {r : Next} → ((i : ℕ) → getD held i 0 < 256) → r ≡ More → r ≡ nextAt held from (t .head) → Wanting t held from
+unfolding wholeAt nextAt
+found-more t held from octets e f = go (leb n (length held)) refl (sym e ∙ f)
+  where
+    n : ℕ
+    n = from + needed held from (t .head)
+
+    go : (b : Bool) → leb n (length held) ≡ b → More ≡ cond b (Whole n) More → (leb n (length held) ≡ false) × (length held < from + t .head + 65535)
+    go true l g = absurd (true≢false (sym (ap isWhole g)))
+    go false l g = (l, omega (arith, leb-false n (length held) l, needed-most held from (t .head) octets))
 
 -- a piece, as it is cut from what is held
 pub cut-out : (head : ℕ) (held : List ℕ) (from : ℕ) {end : ℕ} → end ≡ from + needed held from head

@@ -18,9 +18,8 @@ unfoldable pub needed : List ℕ → ℕ → ℕ → ℕ
 needed s from head = cond (leb (from + head) (length s)) (head + at16 s (from + head - 2)) head
 
 -- a piece is whole where all of it is there, and it is found with its end
-abbrev pub Found : List ℕ → ℕ → ℕ → Next → Type 0
-Found s from head (Whole end) = (end ≡ from + needed s from head) × (from + head ≤ end) × (end ≤ length s)
-Found s from head More = (length s < from + needed s from head) × (length s < from + head + 65535)
+unfoldable pub nextAt : List ℕ → ℕ → ℕ → Next
+nextAt s from head = cond (leb (from + needed s from head) (length s)) (Whole (from + needed s from head)) More
 
 -- `cut`
 unfoldable pub cutLine : List ℕ

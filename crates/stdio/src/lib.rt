@@ -9,7 +9,7 @@ ghost use mathlib.Core.Path.{_≡_};
 ghost use lib.ListN.{length};
 ghost use Rattle.meaning.specs.Octets.{part, splice};
 ghost use Rattle.octets.specs.Writing.{Wrote};
-ghost use Rattle.stdio.specs.Pieces.{Found, Reads, Continues, cutLine};
+ghost use Rattle.stdio.specs.Pieces.{nextAt, Reads, Continues, cutLine};
 
 // ---- what is held
 
@@ -22,7 +22,7 @@ pub enum Next {
 // The piece at a place of what was read, with a head of two or three octets.
 pub fn next_piece(held: &[u8], from: usize, head: usize) -> Next
     requires { ⌜ (from ≤ length (now held)) × (2 ≤ head) × (head ≤ 3) ⌝ }
-    ensures { λ r. ⌜ Found (now (held .entry)) from head r ⌝ }
+    ensures { λ r. ⌜ r ≡ nextAt (now (held .entry)) from head ⌝ }
 {
     let left = held.len() - from;
     if left < head {

@@ -1,7 +1,7 @@
 -- The code's table against that of `meaning`: an arm of its `match`, what is left when no arm fits, the lengths at which rules are asked.
 use Prim.Native.Nat.{ℕ, suc, _+_, _≤_}
 use native.Mathlib.Omega.{arith}
-use mathlib.Core.Path.{_≡_, refl, sym, ap, _∙_}
+use mathlib.Core.Path.{_≡_, refl, sym, ap, ap₂, _∙_}
 use mathlib.Core.Bool.{Bool, true, false, _&&_, _||_}
 use lib.Arith.{lt-of-le-ne}
 use lib.ListN.{List·getD-eq-default}
@@ -9,12 +9,16 @@ use lib.Seq.{take-all}
 use lib.Dec.{eqb, leb, ltb}
 use borrow.Author.Tests.{ne-eqb, eqb-true, eq-eqb, leb-true, le-leb, ltb-true, ltb-false}
 use Rattle.meaning.specs.Table as table
-use Rattle.meaning.specs.Table.{nobody, free, within, time, entries, ratio, running, rows, rowAt, rooms, roomAt}
+use Rattle.meaning.specs.Table.{controller, port, nobody, free, within, time, entries, ratio, running, rows, rowAt, rooms, roomAt}
 use Rattle.meaning.specs.Octets.{below}
 use Rattle.meaning.proofs.Tests.{and-left, and-right, below-at}
 use Rattle.schedule.specs.Rules.{ruleOf, asked}
+use Rattle.schedule.specs.declared.Rule.{Rule}
+use Rattle.schedule.specs.declared.Rule.the-variants.{Free, Within, Time, Entries, Ratio, Running}
 use Rattle.table.specs.Rows.{ownerOf, rowOf}
 use Rattle.table.specs.declared.Row.{Row}
+use Rattle.table.specs.declared.Owner.{Owner}
+use Rattle.table.specs.declared.Owner.the-variants.{Controller, Port, Nobody}
 
 -- what `row_at` says of a row and a place
 abbrev pub IsRow : Row → ℕ → Type 0
@@ -41,6 +45,45 @@ module _ (r : Row) (x : table.Row) (e : rowOf r ≡ x) where
   pub rule-is : ruleOf (r .rule) ≡ x .rule
   unfolding rowOf
   rule-is = ap (λ (t : table.Row). t .rule) e
+
+-- so a row of the definitions and a start are one row of the code
+abbrev ownerBack : table.Owner → Owner
+ownerBack controller = Controller
+ownerBack port = Port
+ownerBack nobody = Nobody
+
+abbrev ruleBack : table.Rule → Rule
+ruleBack free = Free
+ruleBack (within a b) = Within a b
+ruleBack time = Time
+ruleBack entries = Entries
+ruleBack ratio = Ratio
+ruleBack running = Running
+
+owner-back : (o : Owner) → ownerBack (ownerOf o) ≡ o
+unfolding ownerOf
+owner-back Controller = refl
+owner-back Port = refl
+owner-back Nobody = refl
+
+rule-back : (r : Rule) → ruleBack (ruleOf r) ≡ r
+unfolding ruleOf
+rule-back Free = refl
+rule-back (Within a b) = refl
+rule-back Time = refl
+rule-back Entries = refl
+rule-back Ratio = refl
+rule-back Running = refl
+
+abbrev rowBack : table.Row → ℕ → Row
+rowBack x s = record { name = x .name; least = x .least; most = x .most; start = s; owner = ownerBack (x .owner); rule = ruleBack (x .rule) }
+
+row-back : (r : Row) → rowBack (rowOf r) (r .start) ≡ r
+unfolding rowOf
+row-back r = rw (owner-back (r .owner), rule-back (r .rule))
+
+pub one-row : (r q : Row) → rowOf r ≡ rowOf q → r .start ≡ q .start → r ≡ q
+one-row r q e s = sym (row-back r) ∙ ap₂ rowBack e s ∙ row-back q
 
 pub arm : (j k : ℕ) (r : Row) (x : table.Row) {s : ℕ} → k ≡ j → rowOf r ≡ x → r .start ≡ s → x ≡ rowAt j → s ≡ roomAt j → s + x .most ≤ 2100 → IsRow r k
 arm j k r x e p q y z h = (p ∙ y ∙ ap rowAt (sym e), q ∙ z ∙ ap roomAt (sym e), omega (arith, most-is r x p, q, h))

@@ -2,7 +2,7 @@
 use Prim.Native.Nat.{ℕ, _+_, _*_, _≤_}
 use native.Mathlib.Omega.{arith}
 use types.Run.{OneOf}
-use mathlib.Core.Path.{_≡_, sym, _∙_}
+use mathlib.Core.Path.{_≡_, sym, ap, _∙_}
 use mathlib.Core.Bool.{Bool, true, false, _||_, cond, or-assoc, or-false}
 use mathlib.Core.List.{List, [], _∷_}
 use lib.Dec.{leb}
@@ -23,12 +23,13 @@ use Rattle.operation.proofs.Handed.{the-type}
 use Rattle.operation.proofs.Turns.{HandsOut, inside-value}
 use Rattle.command.specs.declared.Answer.{Answer}
 use Rattle.command.specs.declared.Answer.the-variants.{Names, Value, ReadError, Update, UpdateError, Silent}
-use Rattle.command.specs.Answers.{answerOf, InTable, mayChange, anyChange, TellsChange}
+use Rattle.command.specs.Answers.{answerOf, InTable, told, mayChange, anyChange}
 use Rattle.command.proofs.Shown.{shown-short}
+use Rattle.command.proofs.Told.{told-back}
 use Rattle.command.proofs.Walk.{Under, rest, under-start, under-end, under-ahead, under-rest, under-turn}
 use Rattle.tally.specs.declared.Tally.{Tally}
-use Rattle.tally.specs.Tallies.{plus, noCount, noTally, tallyOf, Small, Below, Adds}
-use Rattle.tally.proofs.Plus.{held-octets, short-octets, Light, plus-joined, plus-below, below-more, silent-added}
+use Rattle.tally.specs.Tallies.{plus, noCount, noTally, tallyOf, counted, Small, Below}
+use Rattle.tally.proofs.Plus.{held-octets, short-octets, Light, plus-joined, plus-below, below-more, silent-added, counted-is}
 
 -- ---- what a turn adds
 
@@ -100,20 +101,21 @@ module _ (m list copy : List ℕ) (t : Tally) (changed : Bool) (at : ℕ) (u : C
       )
 
   pub counting-turn : (o : Op) (next : ℕ) → h ≡ Operation o next → length list ≤ 2048 → (copy′ : List ℕ) (a : Answer) (t′ : Tally) (b : Bool)
-      → copy′ ≡ step copy (opOf list o) → answerOf copy′ list o a ≡ answer copy (opOf list o) → InTable a → Adds copy′ t o a t′ → TellsChange a b
+      → copy′ ≡ step copy (opOf list o) → a ≡ told (answer copy (opOf list o)) → t′ ≡ counted copy′ t o a → b ≡ mayChange a
       → Counting m list copy′ t′ (changed || b) next
   unfolding records gathered answers anyChange
-  counting-turn o next e long copy′ a t′ b q p told adds tells =
+  counting-turn o next e long copy′ a t′ b q p adds tells =
       let w = under-ahead m list copy at (u .under) h hands o next e in
-      let x : t′ ≡ plus t (recordOf (answerOf copy′ list o a)) = adds list (w .2) in
-      let y : b ≡ mayChange (answer copy (opOf list o)) = rw (← p) (tells copy′ list o) in
+      let back = told-back copy list o copy′ a q p in
+      let x : t′ ≡ plus t (recordOf (answerOf copy′ list o a)) = adds ∙ counted-is copy′ list t o a (inside-value (length list) o (w .2)) in
+      let y : b ≡ mayChange (told (answer copy (opOf list o))) = tells ∙ ap mayChange p in
       let r = under-rest m list copy at (u .under) h hands o next e in
       record {
         under = under-turn m list copy at (u .under) h hands o next e copy′ q;
-        leads = rw (x, p, q) (sym (plus-joined t (recordOf (answer copy (opOf list o))) _) ∙ rw r at (u .leads));
-        flagged = rw (y, q) (or-assoc changed (mayChange (answer copy (opOf list o))) _ ∙ rw r at (u .flagged));
+        leads = rw (x, back .0, q) (sym (plus-joined t (recordOf (answer copy (opOf list o))) _) ∙ rw r at (u .leads));
+        flagged = rw (y, q) (or-assoc changed (mayChange (told (answer copy (opOf list o)))) _ ∙ rw r at (u .flagged));
         small =
             rw x
             (below-more (4096 * at + 4096) (4096 * next) (plus t (recordOf (answerOf copy′ list o a))) (omega (arith, w .0))
-            (plus-below (4096 * at) t _ (u .small) (told-light copy′ list o a long (w .2) told)));
+            (plus-below (4096 * at) t _ (u .small) (told-light copy′ list o a long (w .2) (back .1))));
       }

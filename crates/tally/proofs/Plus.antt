@@ -1,19 +1,25 @@
 -- A tally and one record more, by the answer's kind; records joined are tallied one after another; how far a tally grows.
 use Prim.Native.Nat.{ℕ, _+_, _≤_, _<_}
 use native.Mathlib.Nat.{add-zero, add-assoc}
+use native.Mathlib.Decide.{decLe}
 use native.Mathlib.Omega.{arith}
-use mathlib.Core.Path.{_≡_, refl, ap}
+use mathlib.Core.Path.{_≡_, refl, sym, ap, _∙_}
 use mathlib.Core.Bool.{Bool, true, false, _||_}
 use mathlib.Core.List.{List, [], _∷_, _++_, append-nil}
-use lib.ListN.{length, length-append}
+use lib.ListN.{length, length-append, length-replicate}
 use borrow.Author.Tests.{le-leb, lt-leb}
-use Rattle.meaning.specs.Octets.{be16, flat}
+use Rattle.meaning.specs.Octets.{be16, part, zeros, flat}
 use Rattle.meaning.specs.Step.{names, value, readError, update, updateError, silent}
 use Rattle.meaning.specs.Reply.{Records, joined, recordOf, heldOctets, shortOctets, failedOctets}
-use Rattle.meaning.proofs.Lists.{flat-length}
+use Rattle.meaning.proofs.Lists.{length-part, flat-length}
+use Rattle.operation.specs.declared.Op.{Op}
+use Rattle.operation.specs.Handing.{nameOf, fromOf, sizeOf}
+use Rattle.command.specs.declared.Answer.{Answer}
+use Rattle.command.specs.declared.Answer.the-variants.{Names, Value, ReadError, Update, UpdateError, Silent}
+use Rattle.command.specs.Answers.{answerOf}
 use Rattle.tally.specs.declared.Count.{Count}
 use Rattle.tally.specs.declared.Tally.{Tally}
-use Rattle.tally.specs.Tallies.{grown, plus, Small, Below}
+use Rattle.tally.specs.Tallies.{grown, plus, counted, Small, Below}
 
 -- ---- one record
 
@@ -74,6 +80,28 @@ module _ (t : Tally) where
       → with (t .capabilities) (t .values) (t .«read_errors») (t .updates) (t .«update_errors») c ≡ plus t (recordOf (update n v))
   unfolding plus recordOf flat
   long-added n v h e = simp (e, or-false (t .capabilities), lt-leb (length v) 255 h, grown-none, held-octets n v)
+
+  -- of a value set the length alone counts
+  update-alike : (n : ℕ) (v w : List ℕ) → length v ≡ length w → plus t (recordOf (update n v)) ≡ plus t (recordOf (update n w))
+  update-alike n v w e = go (decLe (length v) 255)
+    where
+      go : Dec (length v ≤ 255) → plus t (recordOf (update n v)) ≡ plus t (recordOf (update n w))
+      go (yes h) = sym (update-added n v h refl) ∙ update-added n w (omega (arith, h, e)) (ap (λ (k : ℕ). grown (t .updates) 1 (3 + k)) e)
+      go (no h) = sym (long-added n v (omega arith) refl) ∙ long-added n w (omega (arith, e)) (ap (λ (k : ℕ). grown (t .«long_updates») 1 (4 + k)) e)
+
+-- ---- the record of an answer
+
+pub zeros-part : (o : Op) → length (part (zeros (fromOf o + sizeOf o)) (fromOf o) (sizeOf o)) ≡ sizeOf o
+zeros-part o = length-part (zeros (fromOf o + sizeOf o)) (fromOf o) (sizeOf o) (omega (arith, length-replicate {A = ℕ} (fromOf o + sizeOf o) 0))
+
+pub counted-is : (m s : List ℕ) (t : Tally) (o : Op) (a : Answer) → fromOf o + sizeOf o ≤ length s → counted m t o a ≡ plus t (recordOf (answerOf m s o a))
+unfolding counted answerOf
+counted-is m s t o Names h = refl
+counted-is m s t o (Value k) h = refl
+counted-is m s t o (ReadError c) h = refl
+counted-is m s t o Update h = update-alike t (nameOf o) _ _ (zeros-part o ∙ sym (length-part s (fromOf o) (sizeOf o) h))
+counted-is m s t o (UpdateError c) h = refl
+counted-is m s t o Silent h = refl
 
 -- ---- records joined
 

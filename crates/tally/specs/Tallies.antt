@@ -1,15 +1,14 @@
 -- The tally of a reply's records, and the reply's length by it.
 use Prim.Native.Nat.{ℕ, _+_, _≤_}
-use mathlib.Core.Path.{_≡_}
 use mathlib.Core.Bool.{Bool, false, _||_, not, cond}
 use mathlib.Core.List.{List, [], _∷_}
 use lib.ListN.{length}
 use lib.Dec.{eqb, leb}
-use Rattle.meaning.specs.Octets.{flat, every}
+use Rattle.meaning.specs.Octets.{zeros, flat, every}
 use Rattle.meaning.specs.Wire.{namesLength, replyMost, countMost}
 use Rattle.meaning.specs.Reply.{Records, recordOf, heldOctets, shortOctets, failedOctets}
 use Rattle.operation.specs.declared.Op.{Op}
-use Rattle.operation.specs.Handing.{Inside}
+use Rattle.operation.specs.Handing.{fromOf, sizeOf}
 use Rattle.command.specs.Answers.{answerOf}
 use Rattle.command.specs.declared.Answer.{Answer}
 use Rattle.tally.specs.declared.Count.{Count}
@@ -40,6 +39,10 @@ noTally = record { capabilities = false; values = noCount; «read_errors» = noC
 unfoldable pub tallyOf : Records → Tally
 tallyOf r = plus noTally r
 
+-- a tally, and the record of an answer to an operation more. Of a set's value its length alone counts, so zeros stand for the list
+unfoldable pub counted : List ℕ → Tally → Op → Answer → Tally
+counted m t o a = plus t (recordOf (answerOf m (zeros (fromOf o + sizeOf o)) o a))
+
 -- ---- what the code asks and says of a tally
 
 -- small enough for a sum more
@@ -48,10 +51,6 @@ Small b c = (c .count ≤ b) × (c .octets ≤ b)
 
 abbrev pub Below : ℕ → Tally → Type 0
 Below b t = Small b (t .values) × Small b (t .«read_errors») × Small b (t .updates) × Small b (t .«update_errors») × Small b (t .«long_updates»)
-
--- a tally with the record of an answer to an operation, whatever the list
-abbrev pub Adds : List ℕ → Tally → Op → Answer → Tally → Type 0
-Adds m t o a r = (s : List ℕ) → Inside (length s) o → r ≡ plus t (recordOf (answerOf m s o a))
 
 -- ---- the reply's length
 

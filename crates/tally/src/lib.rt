@@ -1,6 +1,6 @@
 // What a reply will hold, counted before any of it is written: whether names are asked, and for each kind of record how
 // many there are and their octets. The operations act on the working copy; the numbers are exact.
-ghost use Prim.Native.Nat.{_+_, _≤_, _<_};
+ghost use Prim.Native.Nat.{_≤_, _<_};
 ghost use mathlib.Core.Path.{_≡_};
 ghost use mathlib.Core.Bool.{true};
 ghost use lib.ListN.{length};
@@ -12,7 +12,7 @@ ghost use Rattle.meaning.specs.Step.{shown, after, answers};
 ghost use Rattle.meaning.specs.Calls.{records};
 ghost use Rattle.operation.specs.Handing.{Inside};
 ghost use Rattle.command.specs.Answers.{InTable, anyChange};
-ghost use Rattle.tally.specs.Tallies.{grown, tallyOf, Below, Adds, anyRead, anySet, readOctets, setOctets, elementLength, replyLength, tallyFits};
+ghost use Rattle.tally.specs.Tallies.{grown, tallyOf, counted, Below, anyRead, anySet, readOctets, setOctets, elementLength, replyLength, tallyFits};
 use command::Answer;
 use operation::Handed;
 use operation::Op;
@@ -64,7 +64,7 @@ fn shown_length(m: &[u8], k: usize) -> usize
 // A tally and the record of one answer more, to an operation.
 fn add(t: Tally, m: &[u8], op: Op, a: Answer) -> Tally
     requires { ⌜ (length (now m) ≡ memoryLength) × Below 16777216 t × Inside messageMost op × InTable a ⌝ }
-    ensures { λ r. ⌜ Adds (now (m .entry)) t op a r ⌝ }
+    ensures { λ r. ⌜ r ≡ counted (now (m .entry)) t op a ⌝ }
 {
     let mut r = t;
     match a {

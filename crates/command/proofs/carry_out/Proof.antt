@@ -7,9 +7,9 @@ use borrow.Author.Needs.{needs}
 use Rattle.meaning.specs.Octets.{part}
 use Rattle.meaning.specs.Checks.{firstFailed}
 use Rattle.meaning.specs.Step.{setChecks, setMemory, step, answer}
-use Rattle.operation.specs.Handing.{opOf, nameOf, fromOf, sizeOf}
+use Rattle.operation.specs.Handing.{opOf}
 use Rattle.octets.proofs.Splices.{part-is}
-use Rattle.command.specs.Answers.{answerOf}
+use Rattle.command.specs.Answers.{told}
 use Rattle.command.proofs.Sets.{long-of, answer-update, answer-cause}
 use Rattle.command.proofs.carry_out.Statement.{statement}
 use Rattle.command.proofs.carry_out.Tie as tie
@@ -25,11 +25,11 @@ module _ (c : tie.After-op2) where
   abbrev size : ℕ
   size = c .op2 .given .0 .1 .1 .0
 
-  told : (c .op2 .given .0 .0 < 65536) × (from + size ≤ length list)
-  told = rw (c .op2 .given .1) at (c .before .before .before .before .pre .1)
+  asked : (c .op2 .given .0 .0 < 65536) × (from + size ≤ length list)
+  asked = rw (c .op2 .given .1) at (c .before .before .before .before .pre .1)
 
   within : from + size ≤ length list
-  within = told .1
+  within = asked .1
 
 enum-told : tie.Need-enum-told
 enum-told c = search needs
@@ -75,55 +75,55 @@ unsubscribe-requires : tie.Need-unsubscribe-requires
 unsubscribe-requires c κs = long-of _ (c .before .before .before .before .before .before .pre .0)
 
 returns : tie.Need-returns
-unfolding opOf step answer answerOf
-returns c = rw (c .enum-told .given .1) (refl, (refl, tt))
+unfolding opOf step answer told
+returns c = rw (c .enum-told .given .1) (refl, refl)
 
 same-length : tie.Need-same-length
 same-length c = search needs
 
 returns-2 : tie.Need-returns-2
-unfolding opOf nameOf step answer
-returns-2 c = rw (c .before .before .before .op .given .1) (refl, c .read .ensures _ _ refl)
+unfolding opOf step answer
+returns-2 c = rw (c .before .before .before .op .given .1) (refl, c .read .ensures)
 
 same-length-2 : tie.Need-same-length-2
 same-length-2 c = search needs
 
 returns-3 : tie.Need-returns-3
-unfolding opOf nameOf fromOf sizeOf step answer answerOf
+unfolding opOf step answer told
 returns-3 c =
     let p = c .before .before .before .set in
     let k = c .before .before .before .before .before .before .before in
     let m = c .before .before .before .before .before .before .before .before .before .before .before .args .m .now in
     let n = k .op2 .given .0 .0 in
     let e : firstFailed (setChecks m n (part (list k) (from k) (size k))) ≡ 0 = rw (part-is (list k) (from k) (size k)) at (sym (p .ensures .0) ∙ c .if1 .taken) in
-    rw (k .op2 .given .1) (p .ensures .1 ∙ ap (setMemory m n) (part-is (list k) (from k) (size k)), (sym (answer-update m n _ e), tt))
+    rw (k .op2 .given .1) (p .ensures .1 ∙ ap (setMemory m n) (part-is (list k) (from k) (size k)), sym (ap told (answer-update m n _ e)))
 
 same-length-3 : tie.Need-same-length-3
 same-length-3 c = search needs
 
 returns-4 : tie.Need-returns-4
-unfolding opOf nameOf step answer answerOf
+unfolding opOf step answer told
 returns-4 c =
     let p = c .before .before .before .set in
     let k = c .before .before .before .before .before .before .before in
     let m = c .before .before .before .before .before .before .before .before .before .before .before .args .m .now in
     let n = k .op2 .given .0 .0 in
     let e : p .result ≡ firstFailed (setChecks m n (part (list k) (from k) (size k))) = rw (part-is (list k) (from k) (size k)) at (p .ensures .0) in
-    rw (k .op2 .given .1) (p .ensures .1 ∙ ap (setMemory m n) (part-is (list k) (from k) (size k)), (sym (answer-cause m n _ _ e (c .if1 .left)), tt))
+    rw (k .op2 .given .1) (p .ensures .1 ∙ ap (setMemory m n) (part-is (list k) (from k) (size k)), sym (ap told (answer-cause m n _ _ e (c .if1 .left))))
 
 same-length-4 : tie.Need-same-length-4
 same-length-4 c = search needs
 
 returns-5 : tie.Need-returns-5
-unfolding opOf step answer answerOf
-returns-5 c = rw (c .before .before .before .before .before .op3 .given .1) (c .before .before .subscribe .ensures, (refl, tt))
+unfolding opOf step answer told
+returns-5 c = rw (c .before .before .before .before .before .op3 .given .1) (c .before .before .subscribe .ensures, refl)
 
 same-length-5 : tie.Need-same-length-5
 same-length-5 c = search needs
 
 returns-6 : tie.Need-returns-6
-unfolding opOf step answer answerOf
-returns-6 c = rw (c .before .before .before .before .before .op4 .given .1) (c .before .before .unsubscribe .ensures, (refl, tt))
+unfolding opOf step answer told
+returns-6 c = rw (c .before .before .before .before .before .op4 .given .1) (c .before .before .unsubscribe .ensures, refl)
 
 pub carry-out-spec : {M : Type 1} → statement M
 carry-out-spec =

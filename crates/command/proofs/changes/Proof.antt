@@ -1,7 +1,7 @@
 -- `command::changes` meets its contract.
 use mathlib.Core.Path.{refl}
 use borrow.Author.Needs.{needs}
-use Rattle.command.specs.Answers.{answerOf, mayChange}
+use Rattle.command.specs.Answers.{mayChange}
 use Rattle.command.proofs.changes.Statement.{statement}
 use Rattle.command.proofs.changes.Tie as tie
 
@@ -24,28 +24,28 @@ enum-told-6 : tie.Need-enum-told-6
 enum-told-6 c = search needs
 
 returns : tie.Need-returns
-unfolding answerOf mayChange
-returns c m s o = rw (c .enum-told .given .1) refl
+unfolding mayChange
+returns c = rw (c .enum-told .given .1) refl
 
 returns-2 : tie.Need-returns-2
-unfolding answerOf mayChange
-returns-2 c m s o = rw (c .enum-told2 .given .1) refl
+unfolding mayChange
+returns-2 c = rw (c .enum-told2 .given .1) refl
 
 returns-3 : tie.Need-returns-3
-unfolding answerOf mayChange
-returns-3 c m s o = rw (c .enum-told3 .given .1) refl
+unfolding mayChange
+returns-3 c = rw (c .enum-told3 .given .1) refl
 
 returns-4 : tie.Need-returns-4
-unfolding answerOf mayChange
-returns-4 c m s o = rw (c .enum-told4 .given .1) refl
+unfolding mayChange
+returns-4 c = rw (c .enum-told4 .given .1) refl
 
 returns-5 : tie.Need-returns-5
-unfolding answerOf mayChange
-returns-5 c m s o = rw (c .enum-told5 .given .1) refl
+unfolding mayChange
+returns-5 c = rw (c .enum-told5 .given .1) refl
 
 returns-6 : tie.Need-returns-6
-unfolding answerOf mayChange
-returns-6 c m s o = rw (c .enum-told6 .given .1) refl
+unfolding mayChange
+returns-6 c = rw (c .enum-told6 .given .1) refl
 
 pub changes-spec : {M : Type 1} → statement M
 changes-spec =

@@ -13,6 +13,7 @@ use Rattle.meaning.specs.Block.{joinedBlock, formAndFit, sums, permits}
 use Rattle.meaning.specs.Memory.{body, fourPresent, store}
 use Rattle.meaning.specs.Step.{block, commits}
 use Rattle.meaning.proofs.Tests.{denied, affirmed}
+use Rattle.schedule.proofs.Blocks.{fit-is}
 use Rattle.command.proofs.Sets.{long-of, FourPermitted, four-permitted, FourLengths, four-lengths, block-length, commit-unset, commit-unfit, commit-sums, block-found, block-lent, block-in-room, fills, one-length}
 use Rattle.command.proofs.put_commit.Statement.{statement}
 use Rattle.command.proofs.put_commit.Tie as tie
@@ -62,7 +63,11 @@ module _ (c : tie.After-room3) where
 fit : (c : tie.After-fit-together) → c .fit-together .result ≡ formAndFit (block (copy (c .before)))
 fit c =
     let k = c .before in
-    c .fit-together .ensures _ (ap (permits (rowAt adminBaseTime)) (base-is k) ∙ permitted k .base) ∙ ap formAndFit (found k)
+    let p = permitted k in
+    c .fit-together .ensures
+    ∙ fit-is _ _ _ _ (ap (permits (rowAt adminBaseTime)) (base-is k) ∙ p .base) (ap (permits (rowAt adminControlListLength)) (count-is k) ∙ p .count)
+    (ap (permits (rowAt adminControlList)) (list-is k) ∙ p .list) (ap (permits (rowAt adminCycleTime)) (ratio-is k) ∙ p .ratio)
+    ∙ ap formAndFit (found k)
 
 -- their block, at the start of its room
 module _ (c : tie.After-join) where

@@ -31,7 +31,7 @@ use denote.Triple.Entry.{Vals, alive, onEntry}
 use denote.Triple.Spec.{tripleOf}
 use denote.Triple.Table.{entered, cited}
 use denote.Triple.Walked.{says, Stays, walkOf, ends-at}
-use Rattle.operation.specs.Handing.{HandsOut}
+use Rattle.operation.specs.Handing.{handedAt}
 use Rattle.operation.specs.declared.Reader.{Reader}
 use Rattle.operation.specs.declared.Handed.{Handed}
 use Rattle.operation.proofs.Handed as handed
@@ -69,10 +69,10 @@ module _ {M : Type 1} (𝓤 : URA M) (H : Heap 𝓤) (A : Atoms 𝓤) (mem : Mem
 
 -- a reader of the list s moved to n hands out what s does at n
 there : (s : RefT (List ℕ)) (n : ℕ) (r m : Reader) (h : Handed) → (r .list ≡ s) × (r .at ≡ 0) → (m .list ≡ r .list) × (m .at ≡ n)
-    → HandsOut (now (m .list)) (m .at) h → HandsOut (now s) n h
+    → h ≡ handedAt (now (m .list)) (m .at) → h ≡ handedAt (now s) n
 there s n r m h made went out =
-    subst (λ (i : ℕ). HandsOut (now s) i h) (went .1)
-    (subst (λ (l : RefT (List ℕ)). HandsOut (now l) (m .at) h) (went .0 ∙ made .0) out)
+    subst (λ (i : ℕ). h ≡ handedAt (now s) i) (went .1)
+    (subst (λ (l : RefT (List ℕ)). h ≡ handedAt (now l) (m .at)) (went .0 ∙ made .0) out)
 
 module _ {M : Type 1} (𝓤 : URA M) (H : Heap 𝓤) (A : Atoms 𝓤) (W : Given 𝓤 H A) (mem : Memory → SProp 𝓤) (run : Routine → Fun 𝓤)
     (κ : Lft) (q : Share) (s : RefT (List ℕ)) (n : ℕ) (ok : n < 2 ^ 64) where
@@ -122,7 +122,7 @@ module _ {M : Type 1} (𝓤 : URA M) (H : Heap 𝓤) (A : Atoms 𝓤) (W : Given
       qed W (‵ (ReaderRow (κ, tt) .own m (u ∷ [])) ∷ raw token ∷ []) ∵
       nothing ! $ move ! (1 ∷ 0 ∷ []) $ fjoin ! $ move ! (1 ∷ 0 ∷ []) $ by ! (asked 𝓤 _)
 
-  exit : (h : Handed) (u : Val) → HandsOut (now s) n h
+  exit : (h : Handed) (u : Val) → h ≡ handedAt (now s) n
       → ent 𝓤 (⋆ 𝓤 H A (‵ (handed.the-row .own h (u ∷ [])) ∷ raw token ∷ ‵ (Lent κ s) ∷ [])) (Walk .post start u)
   exit h u e =
       qed W (‵ (handed.the-row .own h (u ∷ [])) ∷ raw token ∷ ‵ (Lent κ s) ∷ []) ∵
@@ -155,7 +155,7 @@ module _ {M : Type 1} (𝓤 : URA M) (H : Heap 𝓤) (A : Atoms 𝓤) (W : Given
         use2 W (raw (Next 𝓤 H A mem run .pre (to-next m u₁))) (goes-next m u₁) $
         calls-at ! fm (Next 𝓤 H A mem run) known-next (to-next m u₁) (and-then ! (load ! (from ! (stop !)) (look ! 4 refl)) (no-more !))
         (λ u₂.
-        answered ! tt next.ended (next.clauses 𝓤 H A mem run) (to-next m u₁) u₂ (HandsOut (now (m .list)) (m .at)) (λ h ws. id⊢ 𝓤 _) (λ h out.
+        answered ! tt next.ended (next.clauses 𝓤 H A mem run) (to-next m u₁) u₂ (λ h. h ≡ handedAt (now (m .list)) (m .at)) (λ h ws. id⊢ 𝓤 _) (λ h out.
         peeks ! handed.the-row (Is handed.the-row) (shows 𝓤 H A handed.the-row) h (u₂ ∷ []) (λ is₂.
         land ! (from ! (stop !)) (init ! 11 refl (handed-typed 𝓤 H A W h u₂ is₂)) $
         -- [the result; the token; the list; _4; …; _3; …; _2; …; _1; …; _0; …]

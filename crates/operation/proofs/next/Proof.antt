@@ -30,7 +30,7 @@ use denote.Triple.Entry.{alive, onEntry}
 use denote.Triple.Spec.{tripleOf}
 use denote.Triple.Table.{entered, cited}
 use denote.Triple.Walked.{says, Stays, walkOf, ends-at}
-use Rattle.operation.specs.Handing.{HandsOut}
+use Rattle.operation.specs.Handing.{handedAt}
 use Rattle.operation.specs.declared.Reader.{Reader}
 use Rattle.operation.specs.declared.Handed.{Handed}
 use Rattle.operation.proofs.Handed as handed
@@ -78,7 +78,7 @@ module _ {M : Type 1} (𝓤 : URA M) (H : Heap 𝓤) (A : Atoms 𝓤) (W : Given
       -- [what the fields own; the reader, owned once more; nothing; the token]
       keep ! (3 ∷ 0 ∷ 1 ∷ []) $ use2 W (raw (Callee .pre passed)) (asked 𝓤 _) $ frame ! $ done !)
 
-  exit : (h : Handed) (u : Val) → HandsOut (now (r .list)) (r .at) h
+  exit : (h : Handed) (u : Val) → h ≡ handedAt (now (r .list)) (r .at)
       → ent 𝓤 (⋆ 𝓤 H A (‵ (handed.the-row .own h (u ∷ [])) ∷ raw token ∷ ‵ (Held κ r) ∷ [])) (Walk .post start u)
   exit h u e =
       qed W (‵ (handed.the-row .own h (u ∷ [])) ∷ raw token ∷ ‵ (Held κ r) ∷ []) ∵
@@ -96,7 +96,7 @@ module _ {M : Type 1} (𝓤 : URA M) (H : Heap 𝓤) (A : Atoms 𝓤) (W : Given
         -- [what the call asks; the reader; _3; …; _2; …; _1; …; room for _0; …]
         calls-at ! fm Callee known passed (and-then ! (load ! (from ! (stop !)) (look ! 4 refl)) (and-then ! (load ! (from ! (stop !)) (look ! 2 refl)) (no-more !)))
         (λ u.
-        answered ! tt callee.ended (callee.clauses 𝓤 H A mem run) passed u (HandsOut (now (r .list)) (r .at)) (λ h ws. id⊢ 𝓤 _) (λ h e.
+        answered ! tt callee.ended (callee.clauses 𝓤 H A mem run) passed u (λ h. h ≡ handedAt (now (r .list)) (r .at)) (λ h ws. id⊢ 𝓤 _) (λ h e.
         -- [the result; the token; the reader; _3; …; _2; …; _1; …; room for _0; …]
         peeks ! handed.the-row (Is handed.the-row) (shows 𝓤 H A handed.the-row) h (u ∷ []) (λ is.
         land ! (from ! (stop !)) (init ! 9 refl (handed-typed 𝓤 H A W h u is)) $

@@ -70,7 +70,7 @@ returns-6 c =
     let e = i .before .before .before .before .before in
     let n = i .before .get16 in
     let z = c .before .get162 in
-    set-found _ _ (e .if1 .left) (n .result) _ (z .result) (omega arith) (i .if4 .taken) (n .ensures .0) (n .ensures .1) (z .ensures .0) (omega (arith, c .if6 .left))
+    set-found _ _ (e .if1 .left) (n .result) _ (z .result) (omega arith) (i .if4 .taken) (n .ensures .0) (z .ensures .0) (omega (arith, c .if6 .left))
 
 returns-7 : tie.Need-returns-7
 returns-7 c =
@@ -86,9 +86,9 @@ returns-8 c =
     let i = c .before .before .before in
     let e = i .before .before .before in
     let n = c .before .before .get16 in
-    ⊎-elim (λ w. read-found _ _ (e .if1 .left) (n .result) _ (i .if3 .left) (n .ensures .0) (n .ensures .1) (w .0 .keys1) (w .1))
-    (⊎-elim (λ w. subscribe-found _ _ (e .if1 .left) (n .result) _ (i .if3 .left) (n .ensures .0) (n .ensures .1) (w .0 .keys2) (w .1))
-    (λ w. unsubscribe-found _ _ (e .if1 .left) (n .result) _ (i .if3 .left) (n .ensures .0) (n .ensures .1) (w .0 .keys3) (w .1)))
+    ⊎-elim (λ w. read-found _ _ (e .if1 .left) (n .result) _ (i .if3 .left) (n .ensures .0) (w .0 .keys1) (w .1))
+    (⊎-elim (λ w. subscribe-found _ _ (e .if1 .left) (n .result) _ (i .if3 .left) (n .ensures .0) (w .0 .keys2) (w .1))
+    (λ w. unsubscribe-found _ _ (e .if1 .left) (n .result) _ (i .if3 .left) (n .ensures .0) (w .0 .keys3) (w .1)))
     (c .match .came)
 
 pub operation-at-spec : {M : Type 1} → statement M

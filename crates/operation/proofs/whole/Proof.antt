@@ -5,8 +5,8 @@ use mathlib.Core.Path.{_≡_, refl, sym, ap, _∙_, subst}
 use lib.ListN.{length, drop}
 use borrow.Author.Needs.{needs}
 use Rattle.meaning.specs.Operation.{parse, isSome}
-use Rattle.operation.specs.Handing.{HandsOut}
-use Rattle.operation.proofs.Turns.{turn-some, turn-malformed, turn-end}
+use Rattle.operation.proofs.Turns.{HandsOut, turn-some, turn-malformed, turn-end}
+use Rattle.operation.proofs.Hands.{hands-out}
 use Rattle.operation.proofs.whole.Statement.{statement}
 use Rattle.operation.proofs.whole.Tie as tie
 
@@ -15,6 +15,10 @@ Inv-loop list at₀ at = (at ≤ length list) × (isSome (parse (drop at list)) 
 
 abbrev μ-loop : tie.MeasureT-loop
 μ-loop list at₀ at = length list - at
+
+-- what the list hands out at the position
+hands : (c : tie.After-hand-out Inv-loop μ-loop) → HandsOut (c .before .before .before .args .list .now) (c .before .loop .at) (c .hand-out .result)
+hands c = hands-out _ (λ i. omega (arith, c .before .before .shared-slice-known .given i)) _ _ (c .hand-out .ensures)
 
 loop-holds : tie.Need-loop-holds Inv-loop μ-loop
 loop-holds c = (omega arith, refl)
@@ -27,12 +31,12 @@ enum-known-next c = search needs
 
 loop-less : tie.Need-loop-less Inv-loop μ-loop
 loop-less c =
-    let h = subst (HandsOut _ _) (c .before .next .given .1) (c .before .before .before .hand-out .ensures) in
+    let h = subst (HandsOut _ _) (c .before .next .given .1) (hands (c .before .before .before)) in
     omega (arith, h .1 .0, h .1 .1)
 
 loop-again : tie.Need-loop-again Inv-loop μ-loop
 loop-again c =
-    let h = subst (HandsOut _ _) (c .before .next .given .1) (c .before .before .before .hand-out .ensures) in
+    let h = subst (HandsOut _ _) (c .before .next .given .1) (hands (c .before .before .before)) in
     (h .1 .1, sym (turn-some _ (c .before .before .before .before .loop .at) _ _ (h .0)) ∙ c .before .before .before .before .loop .inv .1)
 
 enum-told : tie.Need-enum-told Inv-loop μ-loop
@@ -40,7 +44,7 @@ enum-told c = search needs
 
 returns : tie.Need-returns Inv-loop μ-loop
 returns c =
-    let h = subst (HandsOut _ _) (c .enum-told .given .1) (c .before .before .hand-out .ensures) in
+    let h = subst (HandsOut _ _) (c .enum-told .given .1) (hands (c .before .before)) in
     sym (ap isSome (turn-malformed _ (c .before .before .before .loop .at) (h .0))) ∙ c .before .before .before .loop .inv .1
 
 enum-told-2 : tie.Need-enum-told-2 Inv-loop μ-loop
@@ -48,7 +52,7 @@ enum-told-2 c = search needs
 
 returns-2 : tie.Need-returns-2 Inv-loop μ-loop
 returns-2 c =
-    let h = subst (HandsOut _ _) (c .enum-told2 .given .1) (c .before .before .hand-out .ensures) in
+    let h = subst (HandsOut _ _) (c .enum-told2 .given .1) (hands (c .before .before)) in
     sym (ap isSome (turn-end _ (c .before .before .before .loop .at) (h .0))) ∙ c .before .before .before .loop .inv .1
 
 pub whole-spec : {M : Type 1} → statement M

@@ -1,9 +1,11 @@
 -- `rig::start` meets its contract.
 use native.Mathlib.Omega.{arith}
-use mathlib.Core.Path.{sym, _∙_}
-use lib.ListN.{take, drop}
-use lib.Seq.{length-take-le, take-at}
+use mathlib.Core.Path.{sym, ap, _∙_}
+use lib.ListN.{take}
+use lib.Seq.{length-take-le}
 use borrow.Author.Needs.{needs}
+use Rattle.meaning.specs.Octets.{splice}
+use Rattle.script.proofs.Lend.{front-kept, front-back}
 use Rattle.rig.proofs.Script.{made-fresh}
 use Rattle.rig.proofs.start.Statement.{statement}
 use Rattle.rig.proofs.start.Tie as tie
@@ -26,8 +28,9 @@ returns : tie.Need-returns
 returns c =
     let m = c .before .before .make-fresh in
     let s = c .before .before .before .before .before in
-    let l = length-take-le 2100 (s .args .memory .now) (omega (arith, s .pre)) in
-    take-at (m .last .0) (drop 2100 (s .args .memory .now)) 2100 (m .kept .0 ∙ l) ∙ m .ensures .memoryIs ∙ made-fresh (take 2100 (s .args .memory .now)) l
+    let a = s .args .memory .now in
+    let l = length-take-le 2100 a (omega (arith, s .pre)) in
+    front-back a (take 2100 a) (m .last .0) (front-kept a 2100 (omega (arith, s .pre))) (m .kept .0 ∙ l) .1 ∙ ap (splice a 0) (m .ensures .memoryIs ∙ made-fresh (take 2100 a) l)
 
 pub start-spec : {M : Type 1} → statement M
 start-spec =

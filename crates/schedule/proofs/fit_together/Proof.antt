@@ -9,10 +9,10 @@ use Rattle.schedule.proofs.fit_together.Statement.{statement}
 use Rattle.schedule.proofs.fit_together.Tie as tie
 
 returns : tie.Need-returns
-returns c base permitted =
+returns c =
     let s = c .before .before .before .before in
     let a = s .args in
-    sym (fit-none base (a .count .now) (a .list .now) (a .ratio .now) permitted (s .pre .0) (s .pre .1) (s .pre .2) (c .if1 .taken))
+    sym (fit-none (a .count .now) (a .list .now) (a .ratio .now) (c .if1 .taken))
 
 as-number-requires : tie.Need-as-number-requires
 as-number-requires c κs =
@@ -20,10 +20,10 @@ as-number-requires c κs =
     rw (permitted-count (s .args .count .now) (s .pre .0) .0)
 
 returns-2 : tie.Need-returns-2
-returns-2 c base permitted =
+returns-2 c =
     let s = c .before .before .before .before .before .before in
     let a = s .args in
-    sym (fit-unheld base (a .count .now) (a .list .now) (a .ratio .now) permitted (s .pre .0) (s .pre .1) (s .pre .2) (c .before .before .if1 .left) (c .before .as-number .ensures .0) (c .if2 .taken))
+    sym (fit-unheld (a .count .now) (a .list .now) (a .ratio .now) (c .before .before .if1 .left) (c .before .as-number .ensures .0) (c .if2 .taken))
 
 intervals-requires : tie.Need-intervals-requires
 intervals-requires c κs =
@@ -36,10 +36,10 @@ fits-cycle-requires c κs =
     permitted-ratio (s .args .ratio .now) (s .pre .2)
 
 returns-3 : tie.Need-returns-3
-returns-3 c base permitted =
+returns-3 c =
     let s = c .before .before .before .before .before .before .before .before in
     let a = s .args in
-    let found = fit-held base (a .count .now) (a .list .now) (a .ratio .now) permitted (s .pre .0) (s .pre .1) (s .pre .2) (c .before .before .before .before .if1 .left) (c .before .before .before .as-number .ensures .0) (c .before .before .if2 .left) in
+    let found = fit-held (a .count .now) (a .list .now) (a .ratio .now) (c .before .before .before .before .if1 .left) (c .before .before .before .as-number .ensures .0) (c .before .before .if2 .left) in
     c .fits-cycle .ensures ∙ ap (λ (s : ℕ). leb s (cycle (a .ratio .now))) (c .before .intervals .ensures) ∙ sym found
 
 pub fit-together-spec : {M : Type 1} → statement M

@@ -12,7 +12,7 @@ use Rattle.text.proofs.Answered.{answerable, answered}
 use Rattle.script.specs.Instructions.{bodyRight, called}
 use Rattle.script.specs.Instructions as instructions
 use Rattle.script.proofs.Codes.{call-row, called-room}
-use Rattle.script.proofs.Lend.{call-left}
+use Rattle.script.proofs.Lend.{front-is, call-left}
 use Rattle.script.proofs.take_instruction.Statement.{statement}
 use Rattle.script.proofs.take_instruction.Tie as tie
 
@@ -109,9 +109,9 @@ returns-3 c =
     let o = called (a .code) (a .body .now) m h in
     let w = answered o h (a .out .now) (a .at) (called-room (a .code) (a .body .now) m h) (k .ensures) (rw (again (c .before .before .before .before .before .before .before .before .before)) at (c .before .before .write-outcome .ensures)) in (
       right (c .before .before .before .before .before .before .before .before .before .before .before .before .before .before .before .before .before),
-      call-left (a .out .now) (a .at) _ (s .pre .2 .0, r .ensures .0) o (k .last .0) (a .memory .now) (k .last .1 .0) (r .last .0)
-          (call-row (a .code) (a .body .now) m (take (a .lent .room) (a .room .now)) (omega (arith, c .before .before .before .before .before .before .before .before .before .before .before .before .before .before .before .before .if2 .left)) ∙ ap (λ (x : List ℕ). instructions.answered (called (a .code) (a .body .now) m x)) (sym (r .ensures .1)))
-          (w .1) (omega (arith, w .0, slice-aggregate-call-2 (c .before .before .before .before .before .before .before .before .before .before), r .ensures .0)) (k .kept .0 ∙ sym (slice-aggregate-call (c .before .before .before .before .before .before .before .before .before .before .before))) (room-long (c .before .before .before .before .before .before .before .before .before)),
+      call-left (a .out .now) (a .at) _ (s .pre .2 .0, r .ensures .0) o (k .last .0) (a .memory .now) (k .last .1 .0) (a .room .now) (r .last .0) _
+          (call-row (a .code) (a .body .now) m (take (a .lent .room) (a .room .now)) (omega (arith, c .before .before .before .before .before .before .before .before .before .before .before .before .before .before .before .before .if2 .left)) ∙ ap (λ (x : List ℕ). instructions.answered (called (a .code) (a .body .now) m x)) (sym (front-is (a .room .now) _ (r .ensures .1))))
+          (w .1) (omega (arith, w .0, slice-aggregate-call-2 (c .before .before .before .before .before .before .before .before .before .before), r .ensures .0)) (s .pre .0) (r .ensures .1) (k .kept .0 ∙ sym (slice-aggregate-call (c .before .before .before .before .before .before .before .before .before .before .before))) (room-long (c .before .before .before .before .before .before .before .before .before)),
     )
 
 pub take-instruction-spec : {M : Type 1} → statement M

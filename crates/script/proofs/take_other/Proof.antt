@@ -64,7 +64,7 @@ returns c =
     let e = c .before .before .before .before .before .before .before .before .match .keys1 in (
       s .pre .1,
       lend-left (s .args .out .now) (s .args .at) _ (omega (arith, lend-body (s .pre .1) e, a .ensures .0), s .pre .0 .2 .1) (s .args .body .now) (s .args .memory .now) (a .last .0) (s .args .room .now)
-          (lend-row (s .args .body .now) (take (s .args .lent .memory) (s .args .memory .now)) (take (s .args .lent .room) (s .args .room .now)) e) (a .ensures .0) (a .ensures .1) (c .before .before .write-lent .ensures),
+          (lend-row (s .args .body .now) (take (s .args .lent .memory) (s .args .memory .now)) (take (s .args .lent .room) (s .args .room .now)) e) (a .ensures) (s .pre .0 .1) (c .before .before .write-lent .ensures),
     )
 
 same-length-3 : tie.Need-same-length-3
@@ -80,7 +80,7 @@ returns-2 c =
       s .pre .1,
       line-left (s .args .out .now) (s .args .at) (s .args .lent) (s .pre .0 .2) (octetsLine m) (s .args .memory .now) (s .args .room .now)
           (memory-row (s .args .body .now) (take (s .args .lent .memory) (s .args .memory .now)) (take (s .args .lent .room) (s .args .room .now)) (c .before .before .before .before .before .match .keys2)) (c .before .before .write-octets .ensures)
-          (omega (arith, octets-short m, slice-aggregate-write-octets (c .before .before .before), s .pre .0 .2 .0)),
+          (omega (arith, octets-short m, slice-aggregate-write-octets (c .before .before .before), s .pre .0 .2 .0)) (s .pre .0 .0) (s .pre .0 .1),
     )
 
 same-length-5 : tie.Need-same-length-5
@@ -93,7 +93,7 @@ returns-3 c =
       s .pre .1,
       line-left (s .args .out .now) (s .args .at) (s .args .lent) (s .pre .0 .2) (octetsLine r) (s .args .memory .now) (s .args .room .now)
           (room-row (s .args .body .now) (take (s .args .lent .memory) (s .args .memory .now)) (take (s .args .lent .room) (s .args .room .now)) (c .before .before .before .before .before .match .keys3)) (c .before .before .write-octets2 .ensures)
-          (omega (arith, octets-short r, slice-aggregate-write-octets-2 (c .before .before .before), s .pre .0 .2 .1)),
+          (omega (arith, octets-short r, slice-aggregate-write-octets-2 (c .before .before .before), s .pre .0 .2 .1)) (s .pre .0 .0) (s .pre .0 .1),
     )
 
 same-length-6 : tie.Need-same-length-6
@@ -104,7 +104,7 @@ returns-4 c =
     let s = c .before .before .before .before .before .before .before .before .before in (
       s .pre .1,
       line-left (s .args .out .now) (s .args .at) (s .args .lent) (s .pre .0 .2) (octetsLine (delay (nanoseconds (s .args .body .now)))) (s .args .memory .now) (s .args .room .now)
-          (delay-row (s .args .body .now) (take (s .args .lent .memory) (s .args .memory .now)) (take (s .args .lent .room) (s .args .room .now)) (eight (c .before .before .before .before))) (c .before .before .show-delay .ensures) (delay-short (nanoseconds (s .args .body .now))),
+          (delay-row (s .args .body .now) (take (s .args .lent .memory) (s .args .memory .now)) (take (s .args .lent .room) (s .args .room .now)) (eight (c .before .before .before .before))) (c .before .before .show-delay .ensures) (delay-short (nanoseconds (s .args .body .now))) (s .pre .0 .0) (s .pre .0 .1),
     )
 
 pub take-other-spec : {M : Type 1} → statement M

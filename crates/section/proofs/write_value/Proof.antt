@@ -13,6 +13,7 @@ use Rattle.meaning.specs.Reply.{heldOctets}
 use Rattle.records.proofs.Lengths.{held-length}
 use Rattle.records.proofs.Pieces.{wrote-this}
 use Rattle.command.proofs.Shown.{shown-value, shown-short, shown-sums}
+use Rattle.section.specs.Knowing.{runningSums}
 use Rattle.section.proofs.write_value.Statement.{statement}
 use Rattle.section.proofs.write_value.Tie as tie
 
@@ -25,12 +26,12 @@ value-shown c =
 -- the sums are what a read of 8001 shows
 sums-shown : (c : tie.After-write-sums)
     → c .write-sums .last .1 .0 ≡ shown (c .before .before .before .before .before .before .args .m .now) (c .before .before .before .before .before .before .args .k)
-unfolding sums
+unfolding sums runningSums
 sums-shown c =
     let a = c .before .before .before .before .before .before .args in
     let s = c .before .before .running-sums .ensures in
     let e : sums (body (a .m .now) commit) ≡ shown (a .m .now) (a .k) = sym (shown-sums (a .m .now) commit refl) ∙ ap (shown (a .m .now)) (sym (c .before .before .before .if1 .left)) in
-    c .write-sums .ensures ∙ rw (s .0, s .1) e
+    c .write-sums .ensures ∙ rw s e
 
 body-requires : tie.Need-body-requires
 body-requires c κs = search needs

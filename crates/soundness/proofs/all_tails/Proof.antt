@@ -8,7 +8,7 @@ use Rattle.meaning.specs.Table.{rooms, rows, roomAt}
 use Rattle.meaning.specs.Octets.{part, blank, below}
 use Rattle.meaning.proofs.Places.{room-end, rooms-fill}
 use Rattle.soundness.specs.Fields.{tailAt, allTails}
-use Rattle.soundness.proofs.Gaps.{room-next}
+use Rattle.soundness.proofs.Gaps.{room-next, gap-joins}
 use Rattle.soundness.proofs.Entries.{below-more, fields-fit}
 use Rattle.soundness.proofs.all_tails.Statement.{statement}
 use Rattle.soundness.proofs.all_tails.Tie as tie
@@ -41,12 +41,14 @@ loop-again c =
     let g = c .before .gap-at in
     let h = c .before .before .loop-test .taken in
     let l = c .before .before .before .loop in
-    let m = c .before .before .before .before .before .args .m .now in (
+    let s = c .before .before .before .before .before in
+    let m = s .args .m .now in
+    let j = rw (← g .ensures) at (gap-joins m (l .k) (l .end) h (l .inv .1) (fields-fit m (s .pre .1) (l .k) h)) in (
       search needs,
-      g .ensures .1,
-      omega (arith, g .ensures .1, room-next (l .k) h, room-end (l .k) h),
+      j .1,
+      omega (arith, j .1, room-next (l .k) h, room-end (l .k) h),
       and-assoc (l .ok) (g .result .blank) _
-          ∙ ap (λ (t : Bool). l .ok && t) (g .ensures .0)
+          ∙ ap (λ (t : Bool). l .ok && t) (j .0)
           ∙ sym (and-assoc (l .ok) (blank (part m (l .end) (roomAt (l .k) - l .end))) (tailAt m (l .k)))
           ∙ ap (λ (t : Bool). t && tailAt m (l .k)) (l .inv .3)
           ∙ below-more (tailAt m) (l .k),

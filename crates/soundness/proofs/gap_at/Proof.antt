@@ -1,13 +1,13 @@
 -- `soundness::gap_at` meets its contract.
-use Prim.Native.Nat.{_-_}
-use native.Mathlib.Omega.{arith}
-use mathlib.Core.Bool.{Bool, _&&_}
-use mathlib.Core.Path.{_≡_, sym, ap, _∙_}
+use Prim.Native.Nat.{ℕ, _+_, _-_}
+use mathlib.Core.Bool.{Bool}
+use mathlib.Core.Path.{_≡_, refl, sym, ap, ap₂, _∙_}
 use borrow.Author.Needs.{needs}
+use borrow.Author.Tests.{ne-eqb}
 use Rattle.meaning.specs.Table.{roomAt}
 use Rattle.meaning.specs.Octets.{part, blank}
 use Rattle.meaning.specs.Memory.{cell, size}
-use Rattle.soundness.proofs.Gaps.{room-next, gap-grows, gap-ends}
+use Rattle.soundness.specs.Fields.{gapAt}
 use Rattle.soundness.proofs.gap_at.Statement.{statement}
 use Rattle.soundness.proofs.gap_at.Tie as tie
 
@@ -18,12 +18,11 @@ size-requires : tie.Need-size-requires
 size-requires c κs = search needs
 
 returns : tie.Need-returns
+unfolding gapAt
 returns c =
-    let s = c .before .before .before .before in
-    let a = s .args in
-    let n = c .before .size in
-    let z : size (cell (a .m .now) (a .k)) ≡ 0 = sym (n .ensures .0 ∙ ap size (c .before .before .cell .ensures .0)) ∙ c .if1 .taken in
-    (gap-grows (a .m .now) (a .k) (a .end) (s .pre .1) (s .pre .2) z, omega (arith, room-next (a .k) (s .pre .1), s .pre .2))
+    let a = c .before .before .before .before .args in
+    let z : size (cell (a .m .now) (a .k)) ≡ 0 = sym (c .before .size .ensures .0 ∙ ap size (c .before .before .cell .ensures .0)) ∙ c .if1 .taken in
+    rw z refl
 
 row-at-requires : tie.Need-row-at-requires
 row-at-requires c κs = search needs
@@ -44,18 +43,15 @@ add-t11 : tie.Need-add-t11
 add-t11 c = search needs
 
 returns-2 : tie.Need-returns-2
-unfolding part
+unfolding gapAt part
 returns-2 c =
-    let s = c .before .before .before .before .before .before .before in
-    let a = s .args in
+    let a = c .before .before .before .before .before .before .before .args in
     let m = a .m .now in
-    let r = c .before .before .row-at in
-    let z : r .result .start ≡ roomAt (a .k) = r .ensures .1 in
+    let z : c .before .before .row-at .result .start ≡ roomAt (a .k) = c .before .before .row-at .ensures .1 in
     let n = c .before .before .before .before .size in
     let q : n .result ≡ size (cell m (a .k)) = n .ensures .0 ∙ ap size (c .before .before .before .before .before .cell .ensures .0) in
     let b : c .is-blank .result ≡ blank (part m (a .end) (roomAt (a .k) - a .end)) = c .is-blank .ensures ∙ rw z in
-    let g = gap-ends m (a .k) (a .end) (s .pre .1) (s .pre .2) (n .result) q in
-    (rw (b, z) (ap (λ (t : Bool). blank (part m (a .end) (roomAt (a .k) - a .end)) && t) g), omega (arith, room-next (a .k) (s .pre .1), z, q, s .pre .3))
+    rw (← q, ne-eqb (n .result) 0 (c .before .before .before .if1 .left)) (ap₂ (λ (x : Bool) (y : ℕ). record { blank = x; end = y }) b (ap (λ (y : ℕ). y + n .result) z))
 
 pub gap-at-spec : {M : Type 1} → statement M
 gap-at-spec =

@@ -1,10 +1,10 @@
 -- `stdio::next_piece` meets its contract.
 use Prim.Native.Nat.{_+_, _-_}
 use native.Mathlib.Omega.{arith}
-use mathlib.Core.Path.{_≡_}
+use mathlib.Core.Path.{_≡_, sym}
 use borrow.Author.Needs.{needs}
 use Rattle.meaning.specs.Octets.{at16}
-use Rattle.stdio.proofs.Held.{needed-head, needed-all}
+use Rattle.stdio.proofs.Held.{needed-head, needed-all, next-whole, next-more}
 use Rattle.stdio.proofs.next_piece.Statement.{statement}
 use Rattle.stdio.proofs.next_piece.Tie as tie
 
@@ -21,7 +21,7 @@ returns : tie.Need-returns
 returns c =
     let s = c .before .before in
     let e = needed-head (s .args .held .now) (s .args .from) (s .args .head) (omega arith) in
-    (rw e (omega arith), omega arith)
+    next-more (s .args .held .now) (s .args .from) (s .args .head) (sym e) (omega arith)
 
 add-get16 : tie.Need-add-get16
 add-get16 c = search needs
@@ -39,7 +39,7 @@ returns-2 : tie.Need-returns-2
 returns-2 c =
     let s = c .before .before .before .before in
     let e = needed-all (s .args .held .now) (s .args .from) (s .args .head) (omega arith) in
-    (rw e (omega (arith, size-read (c .before))), omega arith)
+    next-more (s .args .held .now) (s .args .from) (s .args .head) (sym e) (omega (arith, size-read (c .before)))
 
 add-t9 : tie.Need-add-t9
 add-t9 c = search needs
@@ -48,7 +48,7 @@ returns-3 : tie.Need-returns-3
 returns-3 c =
     let s = c .before .before .before .before in
     let e = needed-all (s .args .held .now) (s .args .from) (s .args .head) (omega arith) in
-    (rw e (omega (arith, size-read (c .before))), omega arith, omega arith)
+    next-whole (s .args .held .now) (s .args .from) (s .args .head) (sym e) (omega (arith, size-read (c .before))) (omega arith)
 
 pub next-piece-spec : {M : Type 1} → statement M
 next-piece-spec =

@@ -5,13 +5,12 @@ use mathlib.Core.Path.{_≡_, sym, ap, _∙_}
 use mathlib.Core.List.{List}
 use lib.ListN.{length}
 use borrow.Author.Needs.{needs}
-use Rattle.meaning.specs.Octets.{part}
-use Rattle.meaning.proofs.Lists.{length-part}
-use Rattle.operation.specs.Handing.{nameOf, fromOf, sizeOf, Inside}
+use Rattle.meaning.specs.Octets.{zeros, part}
+use Rattle.operation.specs.Handing.{nameOf, fromOf, sizeOf}
 use Rattle.operation.proofs.Turns.{inside-value}
 use Rattle.command.specs.Answers.{answerOf}
-use Rattle.tally.specs.Tallies.{grown}
-use Rattle.tally.proofs.Plus.{names-added, silent-added, value-added, readError-added, updateError-added, update-added, long-added}
+use Rattle.tally.specs.Tallies.{grown, counted}
+use Rattle.tally.proofs.Plus.{names-added, silent-added, value-added, readError-added, updateError-added, update-added, long-added, zeros-part}
 use Rattle.tally.proofs.add.Statement.{statement}
 use Rattle.tally.proofs.add.Tie as tie
 
@@ -20,8 +19,13 @@ module _ (c : tie.After-size-of) where
   size-small : c .size-of .result ≤ 2048
   size-small = omega (arith, c .size-of .ensures, inside-value 2048 (c .before .before .before .before .args .op) (c .before .before .before .before .pre .2))
 
-  size-long : (s : List ℕ) → Inside (length s) (c .before .before .before .before .args .op) → length (part s (fromOf (c .before .before .before .before .args .op)) (sizeOf (c .before .before .before .before .args .op))) ≡ c .size-of .result
-  size-long s w = length-part s _ _ (inside-value (length s) (c .before .before .before .before .args .op) w) ∙ sym (c .size-of .ensures)
+  abbrev stands : List ℕ
+  stands =
+      let o = c .before .before .before .before .args .op in
+      part (zeros (fromOf o + sizeOf o)) (fromOf o) (sizeOf o)
+
+  size-long : length stands ≡ c .size-of .result
+  size-long = zeros-part (c .before .before .before .before .args .op) ∙ sym (c .size-of .ensures)
 
 enum-told : tie.Need-enum-told
 enum-told c = search needs
@@ -62,14 +66,13 @@ one-more-requires-3 : tie.Need-one-more-requires-3
 one-more-requires-3 c κs = search needs
 
 returns : tie.Need-returns
-unfolding answerOf
-returns c = λ s w.
+unfolding counted answerOf
+returns c =
     let k = c .before .before .before in
     let a = c .before .before .before .before .before .before .before .args in
-    let v = part s (fromOf (a .op)) (sizeOf (a .op)) in
-    let l = size-long k s w in
+    let l = size-long k in
     rw (k .before .enum-told3 .given .1)
-    (update-added (a .t) (nameOf (a .op)) v (omega (arith, l, c .before .before .if1 .taken)) (c .one-more3 .ensures ∙ ap (λ (n : ℕ). grown (a .t .updates) 1 (3 + n)) (sym l)))
+    (update-added (a .t) (nameOf (a .op)) (stands k) (omega (arith, l, c .before .before .if1 .taken)) (c .one-more3 .ensures ∙ ap (λ (n : ℕ). grown (a .t .updates) 1 (3 + n)) (sym l)))
 
 add-one-more-3 : tie.Need-add-one-more-3
 add-one-more-3 c = omega (arith, size-small (c .before .before))
@@ -89,36 +92,35 @@ enum-told-5 : tie.Need-enum-told-5
 enum-told-5 c = search needs
 
 returns-2 : tie.Need-returns-2
-unfolding answerOf
-returns-2 c = λ s w. rw (c .enum-told .given .1) (names-added (c .before .before .before .args .t))
+unfolding counted answerOf
+returns-2 c = rw (c .enum-told .given .1) (names-added (c .before .before .before .args .t))
 
 returns-3 : tie.Need-returns-3
-unfolding answerOf
-returns-3 c = λ s w.
+unfolding counted answerOf
+returns-3 c =
     let t = c .before .before .before .before .before .before .before .args .t in
     rw (c .before .before .before .before .a .given .1) (value-added t _ _ (c .one-more .ensures ∙ ap (λ (n : ℕ). grown (t .values) 1 (4 + n)) (c .before .shown-length .ensures .0)))
 
 returns-4 : tie.Need-returns-4
-unfolding answerOf
-returns-4 c = λ s w. rw (c .before .before .enum-told2 .given .1) (readError-added (c .before .before .before .before .before .args .t) _ _ (c .one-more2 .ensures))
+unfolding counted answerOf
+returns-4 c = rw (c .before .before .enum-told2 .given .1) (readError-added (c .before .before .before .before .before .args .t) _ _ (c .one-more2 .ensures))
 
 returns-5 : tie.Need-returns-5
-unfolding answerOf
-returns-5 c = λ s w.
+unfolding counted answerOf
+returns-5 c =
     let k = c .before .before .before in
     let a = c .before .before .before .before .before .before .before .args in
-    let v = part s (fromOf (a .op)) (sizeOf (a .op)) in
-    let l = size-long k s w in
+    let l = size-long k in
     rw (k .before .enum-told3 .given .1)
-    (long-added (a .t) (nameOf (a .op)) v (omega (arith, l, c .before .before .if1 .left)) (c .one-more4 .ensures ∙ ap (λ (n : ℕ). grown (a .t .«long_updates») 1 (4 + n)) (sym l)))
+    (long-added (a .t) (nameOf (a .op)) (stands k) (omega (arith, l, c .before .before .if1 .left)) (c .one-more4 .ensures ∙ ap (λ (n : ℕ). grown (a .t .«long_updates») 1 (4 + n)) (sym l)))
 
 returns-6 : tie.Need-returns-6
-unfolding answerOf
-returns-6 c = λ s w. rw (c .before .before .enum-told4 .given .1) (updateError-added (c .before .before .before .before .before .args .t) _ _ (c .one-more5 .ensures))
+unfolding counted answerOf
+returns-6 c = rw (c .before .before .enum-told4 .given .1) (updateError-added (c .before .before .before .before .before .args .t) _ _ (c .one-more5 .ensures))
 
 returns-7 : tie.Need-returns-7
-unfolding answerOf
-returns-7 c = λ s w. rw (c .enum-told5 .given .1) (silent-added (c .before .before .before .args .t))
+unfolding counted answerOf
+returns-7 c = rw (c .enum-told5 .given .1) (silent-added (c .before .before .before .args .t))
 
 pub add-spec : {M : Type 1} → statement M
 add-spec =

@@ -1,0 +1,85 @@
+-- What a list of octets hands out is what is parsed there: at each position the operation that is found, which lies ahead and within the list.
+use Prim.Native.Nat.{ℕ, suc, _+_, _-_, _≤_, _<_}
+use native.Mathlib.Decide.{decLe}
+use native.Mathlib.Omega.{arith}
+use mathlib.Core.Path.{_≡_, refl}
+use mathlib.Core.Bool.{Bool, true, false, cond}
+use mathlib.Core.List.{List}
+use lib.ListN.{length, drop, getD, length-drop, drop-of-length-le}
+use lib.Seq.{drop-cons, getD-drop}
+use lib.Dec.{eqb}
+use Rattle.meaning.specs.Octets.{at16, part}
+use Rattle.meaning.specs.Operation.{capabilities, read, set, subscribe, unsubscribe, Shape, alone, named, valued, malformed, shape, Next, whole, shaped}
+use Rattle.meaning.specs.Operation as operation
+use Rattle.meaning.proofs.Lists.{length-part}
+use Rattle.operation.specs.declared.Handed.{Handed}
+use Rattle.operation.specs.Handing.{opOf, Inside, opAt, foundAt, handedFrom, handedAt}
+use Rattle.operation.proofs.Found.{whole-there, whole-cut, rest, rest-length, rest-drop, rest-part}
+use Rattle.operation.proofs.Turns.{found, first, handing, Reached, HandsOut}
+
+module _ (s : List ℕ) (octets : (i : ℕ) → getD s i 0 < 256) (at : ℕ) where
+  -- what is found at the position is handed out
+  abbrev Meets : Next → Type 0
+  Meets nx = (handing s (foundAt (length s) at nx) ≡ found nx) × Reached (length s) at (foundAt (length s) at nx)
+
+  module _ (h : at < length s) where
+    abbrev behind : List ℕ
+    behind = rest s at h
+
+    name-small : at16 behind 0 < 65536
+    unfolding at16
+    name-small = rw (getD-drop (suc at) s 0 0, getD-drop (suc at) s 1 0) (omega (arith, octets (suc at + 0), octets (suc at + 1)))
+
+    -- an operation of w octets after its code
+    whole-hands : (w : ℕ) (o : operation.Op) → (w ≤ length behind → (opOf s (opAt at o) ≡ o) × Inside (length s) (opAt at o)) → Meets (whole w behind o)
+    unfolding handing foundAt
+    whole-hands w o k = go (decLe w (length behind))
+      where
+        go : Dec (w ≤ length behind) → Meets (whole w behind o)
+        go (yes l) =
+            let e : length s - length (drop w behind) ≡ suc at + w = omega (arith, rest-length s at h, length-drop w behind) in
+            rw (whole-there w behind o l, e, k l .0, rest-drop s at h w (suc at + w) refl)
+            (refl, (omega arith, omega (arith, l, rest-length s at h), k l .1))
+        go (no l) = rw (whole-cut w behind o (omega arith)) (refl, tt)
+
+    named-hands : (f : ℕ → operation.Op) → ((n : ℕ) → n < 65536 → (opOf s (opAt at (f n)) ≡ f n) × Inside (length s) (opAt at (f n))) → Meets (shaped (named f) behind)
+    unfolding shaped
+    named-hands f k = whole-hands 2 (f (at16 behind 0)) (λ _. k (at16 behind 0) name-small)
+
+    set-hands : Meets (shaped (valued set) behind)
+    unfolding shaped opOf opAt
+    set-hands =
+        let z = at16 behind 2 in
+        whole-hands (4 + z) (set (at16 behind 0) (part behind 4 z)) (λ l.
+        rw (length-part behind 4 z l) (rw (rest-part s at h 4 (at + 5) z (omega arith)) refl, (name-small, omega (arith, l, rest-length s at h))))
+
+    either-hands : (b : Bool) (x y : Shape) → Meets (shaped x behind) → Meets (shaped y behind) → Meets (shaped (cond b x y) behind)
+    either-hands true x y p q = p
+    either-hands false x y p q = q
+
+    alone-hands : Meets (shaped (alone capabilities) behind)
+    unfolding shaped handing foundAt opOf opAt
+    alone-hands =
+        let e : length s - length behind ≡ suc at = omega (arith, rest-length s at h) in
+        rw e (refl, (omega arith, omega arith, tt))
+
+    malformed-hands : Meets (shaped malformed behind)
+    unfolding shaped handing foundAt
+    malformed-hands = (refl, tt)
+
+    shape-hands : (c : ℕ) → Meets (shaped (shape c) behind)
+    unfolding shape opOf opAt
+    shape-hands c =
+        either-hands (eqb c 1) _ _ alone-hands
+        (either-hands (eqb c 2) _ _ (named-hands read (λ n b. (refl, b)))
+        (either-hands (eqb c 3) _ _ set-hands
+        (either-hands (eqb c 4) _ _ (named-hands subscribe (λ n b. (refl, b)))
+        (either-hands (eqb c 5) _ _ (named-hands unsubscribe (λ n b. (refl, b))) malformed-hands))))
+
+  hands : Dec (length s ≤ at) → HandsOut s at (handedAt s at)
+  unfolding handedAt handedFrom handing first
+  hands (yes l) = rw (drop-of-length-le s l) (refl, tt)
+  hands (no l) = rw (drop-cons s at 0 (omega arith)) (shape-hands (omega arith) (getD s at 0))
+
+  pub hands-out : (r : Handed) → r ≡ handedAt s at → HandsOut s at r
+  hands-out r e = rw e (hands (decLe (length s) at))
