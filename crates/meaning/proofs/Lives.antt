@@ -101,9 +101,9 @@ abbrev sumsOfBoth : List ℕ
 sumsOfBoth = four 0x0C 0x46 0x37 0xC5
 
 unfoldable pub controlled : List Turn
-unfolding command setting reading measured pair held short cause counted one two times right exact
+unfolding command subscribing setting reading measured pair held short cause counted one two times right exact
 controlled =
-    turn (command (setting 0x0003 (1 ∷ []) ∷ setting 0x0002 (1 ∷ []) ∷ setting 0x0001 (zeros 8) ∷ setting 0x000B (four 0 0 0 64)
+    turn (command (subscribing 0x0003 ∷ setting 0x0003 (1 ∷ []) ∷ setting 0x0002 (1 ∷ []) ∷ setting 0x0001 (zeros 8) ∷ setting 0x000B (four 0 0 0 64)
     ∷ setting 0x0003 (2 ∷ [])
     ∷ setting 0x0005 (four 1 0 0 0)
     ∷ reading 0x0003
@@ -132,16 +132,17 @@ controlled =
     (0x02 ∷ 0x71 ∷ measured (counted (held 0x8001 sumsOfBoth ∷ held 0x0006 [] ∷ []) ++ counted [])
     ++ (0x72
     ∷ measured (counted (short 0x0006 one ∷ short 0x0005 (zeros 4) ∷ short 0x0006 [] ∷ []) ++ counted (cause 0x8001 2 ∷ cause 0x8001 2 ∷ []))))
-    ∷ turn (command (setting 0x0006 (times 36 one) ∷ setting 0x0006 (times 37 two) ∷ [])) 0
-    (0x02 ∷ 0x72
-    ∷ measured (counted (short 0x0006 (times 36 one) ∷ []) ++ (counted [] ++ measured (held 0x0006 (times 37 two)))))
+    ∷ turn (command (setting 0x0006 (times 36 one) ∷ [])) 0 (0x02 ∷ 0x72 ∷ measured (counted (short 0x0006 (times 36 one) ∷ []) ++ counted []))
+    ∷ turn (command (setting 0x0006 (times 37 two) ∷ [])) 0
+    (0x02 ∷ 0x72 ∷ measured (counted [] ++ (counted [] ++ measured (held 0x0006 (times 37 two)))))
+    ∷ turn (command (setting 0x0002 [] ∷ [])) 0 (0x02 ∷ 0x72 ∷ measured (counted [] ++ counted (cause 0x0002 1 ∷ [])))
     ∷ []
 
 -- the block that runs is the one that was committed
 unfoldable pub controlled-entries : List Entry
 unfolding fresh-entries with one two times right exact blockOf
 controlled-entries =
-    with 1 (holding 0x0003 1 (1 ∷ []) 1)
+    with 1 (holding 0x0003 3 (1 ∷ []) 1)
     (with 2 (holding 0x0004 1 right 10)
     (with 3 (holding 0x0005 1 (zeros 4) 4)
     (with 4 (holding 0x0006 1 (times 37 two) 448)
@@ -149,7 +150,7 @@ controlled-entries =
     (with 18 (holding 0x8001 1 (blockOf right (four 0 0 0 2) (one ++ two) exact) 470) fresh-entries)))))
 
 pub controlled-life : lived fresh (calls controlled) ≡ record { results = results controlled; left = laid controlled-entries 0 0 }
-unfolding all gives lived controlled command setting reading measured pair held short cause counted one two times right exact blockOf laid with fresh-entries controlled-entries
+unfolding all gives lived controlled command subscribing setting reading measured pair held short cause counted one two times right exact blockOf laid with fresh-entries controlled-entries
 controlled-life = refl
 
 -- ---- what a port's own values do
@@ -240,3 +241,17 @@ refused =
 pub refused-life : lived fresh (calls refused) ≡ record { results = results refused; left = laid fresh-entries 0 0 }
 unfolding all gives lived refused tableNames laid fresh-entries
 refused-life = refl
+
+-- so many records of a kind as a count can tell, and one more: reads and sets that fail, and that do not
+unfoldable pub many : ℕ → List ℕ → Call
+unfolding pair measured times
+many n o = takeMessage (1 ∷ measured (times n o)) (zeros 4096)
+
+pub counts-life : map (λ (c : Call). gives fresh c .number) (many 255 (reading 2) ∷ many 256 (reading 2) ∷ many 255 (reading 3) ∷ many 256 (reading 3)
+    ∷ many 255 (setting 2 [])
+    ∷ many 256 (setting 2 [])
+    ∷ many 255 (setting 3 (1 ∷ []))
+    ∷ many 256 (setting 3 (1 ∷ []))
+    ∷ []) ≡ 0 ∷ 7 ∷ 0 ∷ 7 ∷ 0 ∷ 7 ∷ 0 ∷ 7 ∷ []
+unfolding all gives many pair measured times reading setting
+counts-life = refl
