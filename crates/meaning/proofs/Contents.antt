@@ -1,4 +1,4 @@
--- The table and the memory, octet by octet: who sets each name, how long all names are, where each room starts, the bits of the flags, fresh memory
+-- The table and the memory, octet by octet: who sets each name, how long values and all names are, where each room starts, the bits of the flags, fresh memory
 -- and that making fresh gives it.
 use Prim.Native.Nat.{ℕ, _+_, _*_, _/_, _%_}
 use native.Mathlib.Omega.{arith}
@@ -25,6 +25,12 @@ pub setters : map (λ (r : Row). r .owner) rows
     ≡ port ∷ controller ∷ controller ∷ controller ∷ controller ∷ controller ∷ port ∷ nobody ∷ controller ∷ controller ∷ controller ∷ controller ∷ controller ∷ port ∷ port ∷ port ∷ port ∷ port ∷ controller ∷ []
 unfolding rows
 setters = refl
+
+-- least and greatest lengths (RULES 4.3 to 4.21)
+pub row-lengths : (map (λ (r : Row). r .least) rows ≡ 8 ∷ 1 ∷ 10 ∷ 4 ∷ 0 ∷ 8 ∷ 4 ∷ 4 ∷ 1 ∷ 1 ∷ 1 ∷ 1 ∷ 1 ∷ 1 ∷ 1 ∷ 1 ∷ 1 ∷ 2 ∷ 29 ∷ [])
+    × (map (λ (r : Row). r .most) rows ≡ 8 ∷ 1 ∷ 10 ∷ 4 ∷ 448 ∷ 8 ∷ 4 ∷ 4 ∷ 1 ∷ 1 ∷ 255 ∷ 1 ∷ 255 ∷ 1 ∷ 255 ∷ 1 ∷ 255 ∷ 2 ∷ 470 ∷ [])
+unfolding rows
+row-lengths = (refl, refl)
 
 -- the 19 names, two octets each
 pub names-length : length allNames ≡ namesLength

@@ -9,7 +9,7 @@ use mathlib.Core.Bool.{Bool, true, false, _&&_, _||_, cond, false≢true}
 use mathlib.Core.List.{List, [], _∷_, _++_}
 use lib.ListN.{length, getD}
 use lib.Dec.{eqb}
-use borrow.Author.Tests.{eqb-true, eq-eqb}
+use borrow.Author.Tests.{eqb-true, eq-eqb, ltb-false}
 use Rattle.meaning.specs.Octets.{octet, nonempty}
 use Rattle.meaning.specs.Checks.{firstFailed, whenPassed}
 use Rattle.meaning.specs.Table.{Row, nobody, row, rowAt, rows, placeIn, place, listed, byController, byPort, free, entryCount, commit}
@@ -63,6 +63,15 @@ placed (r ∷ rs) d n h = go (eqb (r .name) n) refl h (placed rs d n)
     go true e l ih = eqb-true _ _ e
     go false e l ih = ih (omega arith)
 
+placed-most : (rs : List Row) (n : ℕ) → placeIn rs n ≤ length rs
+unfolding placeIn
+placed-most [] n = omega arith
+placed-most (r ∷ rs) n = go (eqb (r .name) n) (placed-most rs n)
+  where
+    go : (b : Bool) → placeIn rs n ≤ length rs → cond b 0 (suc (placeIn rs n)) ≤ suc (length rs)
+    go true h = omega arith
+    go false h = omega arith
+
 length-rows : length rows ≡ entryCount
 unfolding rows
 length-rows = refl
@@ -70,6 +79,13 @@ length-rows = refl
 pub place-name : (n : ℕ) → listed n ≡ true → rowAt (place n) .name ≡ n
 unfolding rowAt place
 place-name n e = placed rows (row 0 0 0 nobody free) n (rw length-rows (listed-place n e))
+
+-- a name of no entry has the place behind the last
+pub place-unlisted : (n : ℕ) → listed n ≡ false → place n ≡ 19
+unfolding listed place
+place-unlisted n e =
+    let most : placeIn rows n ≤ length rows = placed-most rows n in
+    omega (arith, ltb-false (placeIn rows n) 19 e, length-rows, most)
 
 commit-name : (n : ℕ) → listed n ≡ true → place n ≡ commit → n ≡ 0x8001
 unfolding rowAt rows
