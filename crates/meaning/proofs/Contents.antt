@@ -3,13 +3,14 @@
 use Prim.Native.Nat.{ℕ, _+_, _*_, _/_, _%_}
 use native.Mathlib.Omega.{arith}
 use mathlib.Core.Path.{_≡_, refl, ap, _∙_}
+use mathlib.Core.Bool.{true, false}
 use mathlib.Core.List.{List, [], _∷_, _++_, map}
 use lib.Dec.{eqb}
 use lib.ListN.{length}
 use borrow.Author.Tests.{eq-eqb}
 use Rattle.meaning.specs.Octets.{octet, zeros, flat, be16}
 use Rattle.meaning.specs.Checks.{passed, check}
-use Rattle.meaning.specs.Table.{Row, controller, port, nobody, rows, rooms, roomAt}
+use Rattle.meaning.specs.Table.{Row, controller, port, nobody, rows, byController, byPort, rooms, roomAt}
 use Rattle.meaning.specs.Wire.{namesLength}
 use Rattle.meaning.specs.Memory.{cell, isPresent, isSubscribed, isPending, present, subscribed, pending, fresh}
 use Rattle.meaning.specs.Reply.{allNames}
@@ -25,6 +26,14 @@ pub setters : map (λ (r : Row). r .owner) rows
     ≡ port ∷ controller ∷ controller ∷ controller ∷ controller ∷ controller ∷ port ∷ nobody ∷ controller ∷ controller ∷ controller ∷ controller ∷ controller ∷ port ∷ port ∷ port ∷ port ∷ port ∷ controller ∷ []
 unfolding rows
 setters = refl
+
+-- so a controller sets these (RULES 11.7), and the port those (RULES 13.1)
+pub set-by : (map (λ (r : Row). byController (r .owner)) rows
+    ≡ false ∷ true ∷ true ∷ true ∷ true ∷ true ∷ false ∷ false ∷ true ∷ true ∷ true ∷ true ∷ true ∷ false ∷ false ∷ false ∷ false ∷ false ∷ true ∷ [])
+    × (map (λ (r : Row). byPort (r .owner)) rows
+    ≡ true ∷ false ∷ false ∷ false ∷ false ∷ false ∷ true ∷ false ∷ false ∷ false ∷ false ∷ false ∷ false ∷ true ∷ true ∷ true ∷ true ∷ true ∷ false ∷ [])
+unfolding rows byController byPort
+set-by = (refl, refl)
 
 -- least and greatest lengths (RULES 4.3 to 4.21)
 pub row-lengths : (map (λ (r : Row). r .least) rows ≡ 8 ∷ 1 ∷ 10 ∷ 4 ∷ 0 ∷ 8 ∷ 4 ∷ 4 ∷ 1 ∷ 1 ∷ 1 ∷ 1 ∷ 1 ∷ 1 ∷ 1 ∷ 1 ∷ 1 ∷ 2 ∷ 29 ∷ [])
