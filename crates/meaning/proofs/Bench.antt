@@ -2,12 +2,12 @@
 use Prim.Native.Nat.{ℕ, _-_, _^_}
 use mathlib.Core.Path.{_≡_, refl}
 use mathlib.Core.List.{List, [], _∷_, _++_, map}
-use lib.ListN.{length}
-use Rattle.meaning.specs.Octets.{be16, zeros}
+use Rattle.meaning.specs.Octets.{zeros}
 use Rattle.meaning.specs.Memory.{fresh}
 use Rattle.meaning.specs.Delay.{delay}
 use Rattle.meaning.specs.Calls.{message}
 use Rattle.meaning.proofs.All.{all}
+use Rattle.meaning.proofs.Wording.{pair, measured, setting, short}
 
 -- what is tried: a message into fresh memory with a room of 4,096, or a delay
 pub data Trial : Type 0 where
@@ -42,22 +42,18 @@ entry = 0x00 ∷ 0x05 ∷ 0xFF ∷ 0x00 ∷ 0x0F ∷ 0x42 ∷ 0x40 ∷ []
 unfoldable pub oneOver : ℕ → ℕ → List ℕ
 oneOver h l = 0 ∷ 0 ∷ 0 ∷ 1 ∷ 0 ∷ 0 ∷ h ∷ l ∷ []
 
-unfoldable pub setting : ℕ → ℕ → List ℕ → List ℕ
-setting h l v = 3 ∷ h ∷ l ∷ be16 (length v) ++ v
-
 -- base time zero, length 1, one entry, a cycle, and a commit
 unfoldable pub schedule : List ℕ → List ℕ → List ℕ
+unfolding setting measured pair entry
 schedule c v =
-    let os =
-    setting 0 4 (zeros 10)
-    ++ (setting 0 5 (0 ∷ 0 ∷ 0 ∷ 1 ∷ []) ++ (setting 0 6 entry ++ (setting 0 7 c ++ setting 0x80 1 v))) in
-    1 ∷ be16 (length os) ++ os
+    1
+    ∷ measured
+    (setting 0x0004 (zeros 10) ++ (setting 0x0005 (0 ∷ 0 ∷ 0 ∷ 1 ∷ []) ++ (setting 0x0006 entry ++ (setting 0x0007 c ++ setting 0x8001 v))))
 
--- name, length, value of the four that are set
+-- the records of the four that are set
 unfoldable pub four : List ℕ → List ℕ
-four c =
-    (0 ∷ 4 ∷ 10 ∷ zeros 10)
-    ++ ((0 ∷ 5 ∷ 4 ∷ 0 ∷ 0 ∷ 0 ∷ 1 ∷ []) ++ ((0 ∷ 6 ∷ 7 ∷ []) ++ (entry ++ ((0 ∷ 7 ∷ 8 ∷ []) ++ c))))
+unfolding short pair entry
+four c = short 0x0004 (zeros 10) ++ (short 0x0005 (0 ∷ 0 ∷ 0 ∷ 1 ∷ []) ++ (short 0x0006 entry ++ short 0x0007 c))
 
 -- the names of the table
 unfoldable pub tableNames : List ℕ
@@ -88,5 +84,5 @@ abbrev pub trials : List Example → List Result
 trials es = map (λ (e : Example). given (e .trial)) es
 
 pub bench : (a b c d : ℕ) → trials (examples a b c d) ≡ map (λ (e : Example). e .wanted) (examples a b c d)
-unfolding all examples tableNames four schedule setting oneOver entry given
+unfolding all examples tableNames four schedule setting short measured pair oneOver entry given
 bench a b c d = refl

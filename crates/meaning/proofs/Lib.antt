@@ -31,6 +31,7 @@ pub mod Sendings
 pub mod Longest
 pub mod Delays
 pub mod Edges
+pub mod Wording
 pub mod Laid
 pub mod Bench
 pub mod Lives

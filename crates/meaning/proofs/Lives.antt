@@ -1,13 +1,16 @@
 -- Lives of a port, call by call: what each call returns and writes, spelt in octets, and all of memory at the end.
-use Prim.Native.Nat.{ℕ, _/_, _%_}
+use Prim.Native.Nat.{ℕ}
 use mathlib.Core.Path.{_≡_, refl}
+use mathlib.Core.Bool.{Bool, true, false, _&&_}
 use mathlib.Core.List.{List, [], _∷_, _++_, map}
-use lib.ListN.{length, replicate}
+use lib.ListN.{replicate}
+use lib.Dec.{eqb}
 use Rattle.meaning.specs.Octets.{flat, zeros}
 use Rattle.meaning.specs.Memory.{fresh}
 use Rattle.meaning.specs.Calls.{Outcome}
 use Rattle.meaning.proofs.All.{all}
 use Rattle.meaning.proofs.Sendings.{Call, refresh, takeMessage, takeValue, buildIn, takeExpiry, gives}
+use Rattle.meaning.proofs.Wording.{pair, measured, reading, setting, subscribing, unsubscribing, held, short, cause, counted}
 use Rattle.meaning.proofs.Bench.{Result, tableNames}
 use Rattle.meaning.proofs.Edges.{four, one, two, times, right, exact, blockOf}
 use Rattle.meaning.proofs.Laid.{Entry, holding, laid, with, fresh-entries, block, full}
@@ -28,6 +31,24 @@ lived m (c ∷ cs) =
     let o = gives m c in
     andThen o (lived (o .memory) cs)
 
+-- whether two lives are alike, octet by octet. A statement over it is short also where it is false, which a list of 2,100 octets is not
+unfoldable alike : List ℕ → List ℕ → Bool
+alike [] [] = true
+alike [] (y ∷ ys) = false
+alike (x ∷ xs) [] = false
+alike (x ∷ xs) (y ∷ ys) = eqb x y && alike xs ys
+
+unfoldable allAlike : List Result → List Result → Bool
+unfolding alike
+allAlike [] [] = true
+allAlike [] (y ∷ ys) = false
+allAlike (x ∷ xs) [] = false
+allAlike (x ∷ xs) (y ∷ ys) = eqb (x .number) (y .number) && (alike (x .octets) (y .octets) && allAlike xs ys)
+
+unfoldable pub agrees : Lived → Lived → Bool
+unfolding alike allAlike
+agrees l w = allAlike (l .results) (w .results) && alike (l .left) (w .left)
+
 -- a call, the number that it returns and the octets that it writes
 pub record Turn : Type 0 where
   pub call : Call
@@ -42,33 +63,6 @@ calls ts = map (λ (t : Turn). t .call) ts
 abbrev pub results : List Turn → List Result
 results ts = map (λ (t : Turn). t .wanted) ts
 
--- ---- octets of commands and replies
-
--- a number of two octets
-unfoldable pub pair : ℕ → List ℕ
-pair n = n / 256 ∷ n % 256 ∷ []
-
--- octets behind their length
-unfoldable pub measured : List ℕ → List ℕ
-unfolding pair
-measured s = pair (length s) ++ s
-
-unfoldable pub reading : ℕ → List ℕ
-unfolding pair
-reading n = 2 ∷ pair n
-
-unfoldable pub setting : ℕ → List ℕ → List ℕ
-unfolding pair measured
-setting n v = 3 ∷ pair n ++ measured v
-
-unfoldable pub subscribing : ℕ → List ℕ
-unfolding pair
-subscribing n = 4 ∷ pair n
-
-unfoldable pub unsubscribing : ℕ → List ℕ
-unfolding pair
-unsubscribing n = 5 ∷ pair n
-
 -- a command of these operations, with room for its reply
 unfoldable pub command : List (List ℕ) → Call
 unfolding pair measured
@@ -76,23 +70,6 @@ command os = takeMessage (1 ∷ measured (flat (λ (o : List ℕ). o) os)) (zero
 
 unfoldable pub acknowledgement : Call
 acknowledgement = takeMessage (4 ∷ []) (zeros 1)
-
--- records: a value behind a length of two octets, of one octet, a cause
-unfoldable pub held : ℕ → List ℕ → List ℕ
-unfolding pair measured
-held n v = pair n ++ measured v
-
-unfoldable pub short : ℕ → List ℕ → List ℕ
-unfolding pair
-short n v = pair n ++ (length v ∷ v)
-
-unfoldable pub cause : ℕ → ℕ → List ℕ
-unfolding pair
-cause n c = pair n ++ (c ∷ [])
-
--- so many records, behind their count
-unfoldable pub counted : List (List ℕ) → List ℕ
-counted rs = length rs ∷ flat (λ (r : List ℕ). r) rs
 
 -- ---- what a controller does
 
@@ -149,8 +126,8 @@ controlled-entries =
     (with 5 (holding 0x0007 1 exact 8)
     (with 18 (holding 0x8001 1 (blockOf right (four 0 0 0 2) (one ++ two) exact) 470) fresh-entries)))))
 
-pub controlled-life : lived fresh (calls controlled) ≡ record { results = results controlled; left = laid controlled-entries 0 0 }
-unfolding all gives lived controlled command subscribing setting reading measured pair held short cause counted one two times right exact blockOf laid with fresh-entries controlled-entries
+pub controlled-life : agrees (lived fresh (calls controlled)) (record { results = results controlled; left = laid controlled-entries 0 0 }) ≡ true
+unfolding all gives agrees alike allAlike lived controlled command subscribing setting reading measured pair held short cause counted one two times right exact blockOf laid with fresh-entries controlled-entries
 controlled-life = refl
 
 -- ---- what a port's own values do
@@ -196,23 +173,24 @@ reported-entries =
     (with 14 (holding 0x00A1 2 [] 255)
     (with 16 (holding 0x00A3 1 (7 ∷ 8 ∷ 9 ∷ []) 255) (with 17 (holding 0x00A4 1 (0 ∷ 121 ∷ []) 2) fresh-entries)))
 
-pub reported-life : lived fresh (calls reported) ≡ record { results = results reported; left = laid reported-entries 0 0 }
-unfolding all gives lived reported command acknowledgement reading subscribing unsubscribing measured pair held cause counted laid with fresh-entries reported-entries
+pub reported-life : agrees (lived fresh (calls reported)) (record { results = results reported; left = laid reported-entries 0 0 }) ≡ true
+unfolding all gives agrees alike allAlike lived reported command acknowledgement reading subscribing unsubscribing measured pair held cause counted laid with fresh-entries reported-entries
 reported-life = refl
 
 -- ---- made fresh
 
 -- whatever was there, a notification that waits too
-pub fresh-life : lived (laid full 1 4) (refresh ∷ []) ≡ record { results = record { number = 0; octets = [] } ∷ []; left = laid fresh-entries 0 0 }
-unfolding all gives lived laid with fresh-entries full block one two right exact blockOf
+pub fresh-life : agrees (lived (laid full 1 4) (refresh ∷ [])) (record { results = record { number = 0; octets = [] } ∷ []; left = laid fresh-entries 0 0 }) ≡ true
+unfolding all gives agrees alike allAlike lived laid with fresh-entries full block one two right exact blockOf
 fresh-life = refl
 
 -- ---- refusals
 
 -- memory that is not sound: none of it
-pub unsound-life : lived [] (refresh ∷ takeMessage (1 ∷ 0 ∷ 1 ∷ 1 ∷ []) (zeros 64) ∷ takeValue 0x0008 (four 0 0 0 0) ∷ buildIn (zeros 1600) ∷ takeExpiry ∷ [])
-    ≡ record { results = replicate 5 (record { number = 1; octets = [] }); left = [] }
-unfolding all gives lived
+pub unsound-life : agrees (lived [] (refresh ∷ takeMessage (1 ∷ 0 ∷ 1 ∷ 1 ∷ []) (zeros 64) ∷ takeValue 0x0008 (four 0 0 0 0) ∷ buildIn (zeros 1600) ∷ takeExpiry ∷ []))
+    (record { results = replicate 5 (record { number = 1; octets = [] }); left = [] })
+    ≡ true
+unfolding all gives agrees alike allAlike lived
 unsound-life = refl
 
 -- messages into fresh memory, none of which changes it: each with its room's length
@@ -238,8 +216,8 @@ refused =
     ∷ turn (takeMessage (1 ∷ 0 ∷ 1 ∷ 1 ∷ 9 ∷ 9 ∷ []) (zeros 64)) 0 (2 ∷ 0x70 ∷ 0 ∷ 38 ∷ tableNames)
     ∷ []
 
-pub refused-life : lived fresh (calls refused) ≡ record { results = results refused; left = laid fresh-entries 0 0 }
-unfolding all gives lived refused tableNames laid fresh-entries
+pub refused-life : agrees (lived fresh (calls refused)) (record { results = results refused; left = laid fresh-entries 0 0 }) ≡ true
+unfolding all gives agrees alike allAlike lived refused tableNames laid fresh-entries
 refused-life = refl
 
 -- so many records of a kind as a count can tell, and one more: reads and sets that fail, and that do not

@@ -150,7 +150,8 @@ fn runs(place: &Place, word: &str) -> bool {
 /// Asserts that a comparison ends with its check: by a signal to the check alone, or to all that it
 /// has started, as a terminal sends it.
 fn assert_ends(place: &Place, word: &str, [signal, to]: [&str; 2], number: i32) {
-    let mut child = place.start("TMPDIR=$KIT exec setsid ./check");
+    // An interrupt is ignored by what a script has started behind it, as these tests may be.
+    let mut child = place.start("TMPDIR=$KIT exec env --default-signal=INT setsid ./check");
     until(|| runs(place, word));
     // More than once: bash outlives an interrupt that comes between two of its commands.
     let mut ended = None;
