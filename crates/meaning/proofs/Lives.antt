@@ -139,6 +139,7 @@ reported =
     ∷ turn (takeValue 0x0008 (four 1 2 3 4)) 0 []
     ∷ turn (takeValue 0x00A1 []) 0 []
     ∷ turn (takeValue 0x00A4 (0 ∷ 120 ∷ [])) 0 []
+    ∷ turn (takeValue 0x00A4 (0 ∷ 120 ∷ [])) 0 []
     ∷ turn (takeValue 0x00A3 (7 ∷ 8 ∷ 9 ∷ [])) 0 []
     ∷ turn (takeValue 0x0003 (1 ∷ [])) 12 []
     ∷ turn (takeValue 0x0008 (1 ∷ 2 ∷ 3 ∷ [])) 12 []
@@ -152,7 +153,7 @@ reported =
     ∷ turn acknowledgement 0 (5 ∷ [])
     ∷ turn acknowledgement 8 []
     ∷ turn (takeValue 0x00A1 []) 0 []
-    ∷ turn (buildIn (zeros 1600)) 0 (3 ∷ measured (counted [] ++ counted (cause 0x00A1 3 ∷ [])))
+    ∷ turn (buildIn (zeros 1601)) 0 (3 ∷ measured (counted [] ++ counted (cause 0x00A1 3 ∷ [])))
     ∷ turn takeExpiry 20 []
     ∷ turn takeExpiry 20 []
     ∷ turn takeExpiry 20 []
