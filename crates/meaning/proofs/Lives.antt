@@ -207,7 +207,7 @@ refused =
     ∷ turn (takeMessage (1 ∷ 0 ∷ 0 ∷ 1 ∷ []) (zeros 64)) 5 []
     ∷ turn (takeMessage (1 ∷ 0 ∷ 2 ∷ 1 ∷ []) (zeros 64)) 5 []
     ∷ turn (takeMessage (1 ∷ 1 ∷ 1 ∷ 1 ∷ []) (zeros 64)) 5 []
-    ∷ turn (takeMessage (1 ∷ 0 ∷ 1 ∷ 0 ∷ []) (zeros 64)) 6 []
+    ∷ turn (takeMessage (1 ∷ 0 ∷ 3 ∷ 0 ∷ 0 ∷ 3 ∷ []) (zeros 64)) 6 []
     ∷ turn (takeMessage (1 ∷ 0 ∷ 2 ∷ 1 ∷ 6 ∷ []) (zeros 64)) 6 []
     ∷ turn (takeMessage (1 ∷ 0 ∷ 2 ∷ 2 ∷ 0 ∷ 3 ∷ []) (zeros 64)) 6 []
     ∷ turn (takeMessage (1 ∷ 0 ∷ 5 ∷ 3 ∷ 0 ∷ 3 ∷ 0 ∷ 1 ∷ 1 ∷ []) (zeros 64)) 6 []
