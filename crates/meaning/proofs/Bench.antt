@@ -7,7 +7,7 @@ use Rattle.meaning.specs.Memory.{fresh}
 use Rattle.meaning.specs.Delay.{delay}
 use Rattle.meaning.specs.Calls.{message}
 use Rattle.meaning.proofs.All.{all}
-use Rattle.meaning.proofs.Wording.{pair, measured, setting, short}
+use Rattle.meaning.proofs.Wording.{twoOctets, withLength, setting, shortRecord}
 
 -- what is tried: a message into fresh memory with a room of 4,096, or a delay
 pub data Trial : Type 0 where
@@ -44,16 +44,16 @@ oneOver h l = 0 ∷ 0 ∷ 0 ∷ 1 ∷ 0 ∷ 0 ∷ h ∷ l ∷ []
 
 -- base time zero, length 1, one entry, a cycle, and a commit
 unfoldable pub schedule : List ℕ → List ℕ → List ℕ
-unfolding setting measured pair entry
+unfolding setting withLength twoOctets entry
 schedule c v =
     1
-    ∷ measured
+    ∷ withLength
     (setting 0x0004 (zeros 10) ++ (setting 0x0005 (0 ∷ 0 ∷ 0 ∷ 1 ∷ []) ++ (setting 0x0006 entry ++ (setting 0x0007 c ++ setting 0x8001 v))))
 
 -- the records of the four that are set
-unfoldable pub four : List ℕ → List ℕ
-unfolding short pair entry
-four c = short 0x0004 (zeros 10) ++ (short 0x0005 (0 ∷ 0 ∷ 0 ∷ 1 ∷ []) ++ (short 0x0006 entry ++ short 0x0007 c))
+unfoldable pub fourRecords : List ℕ → List ℕ
+unfolding shortRecord twoOctets entry
+fourRecords c = shortRecord 0x0004 (zeros 10) ++ (shortRecord 0x0005 (0 ∷ 0 ∷ 0 ∷ 1 ∷ []) ++ (shortRecord 0x0006 entry ++ shortRecord 0x0007 c))
 
 -- the names of the table
 unfoldable pub tableNames : List ℕ
@@ -70,9 +70,9 @@ examples a b c d =
     ∷ example (sent (1 ∷ 0 ∷ 3 ∷ 4 ∷ 0 ∷ 1 ∷ [])) 0 (0x02 ∷ [])
     ∷ example (sent (1 ∷ 0 ∷ 1 ∷ 1 ∷ [])) 0 (0x02 ∷ 0x70 ∷ 0x00 ∷ 0x26 ∷ tableNames)
     ∷ example (sent (schedule (oneOver 0x03 0xE8) (0x02 ∷ 0x82 ∷ 0x13 ∷ 0xB5 ∷ []))) 0
-    (0x02 ∷ 0x72 ∷ 0 ∷ 50 ∷ 5 ∷ four (oneOver 0x03 0xE8) ++ (0x80 ∷ 1 ∷ 4 ∷ 0x02 ∷ 0x82 ∷ 0x13 ∷ 0xB5 ∷ 0 ∷ []))
+    (0x02 ∷ 0x72 ∷ 0 ∷ 50 ∷ 5 ∷ fourRecords (oneOver 0x03 0xE8) ++ (0x80 ∷ 1 ∷ 4 ∷ 0x02 ∷ 0x82 ∷ 0x13 ∷ 0xB5 ∷ 0 ∷ []))
     ∷ example (sent (schedule (oneOver 0x03 0xE9) (a ∷ b ∷ c ∷ d ∷ []))) 0
-    (0x02 ∷ 0x72 ∷ 0 ∷ 46 ∷ 4 ∷ four (oneOver 0x03 0xE9) ++ (1 ∷ 0x80 ∷ 1 ∷ 0x02 ∷ []))
+    (0x02 ∷ 0x72 ∷ 0 ∷ 46 ∷ 4 ∷ fourRecords (oneOver 0x03 0xE9) ++ (1 ∷ 0x80 ∷ 1 ∷ 0x02 ∷ []))
     ∷ example (nanoseconds 1) 0 (0 ∷ 0 ∷ 1 ∷ 0 ∷ 0 ∷ 0 ∷ 0 ∷ 0 ∷ [])
     ∷ example (nanoseconds (2 ^ 47 - 1)) 0 (0 ∷ 0 ∷ 0xFF ∷ 0xFF ∷ 0xFF ∷ 0xFF ∷ 0xFF ∷ 0x7F ∷ [])
     ∷ example (nanoseconds (2 ^ 47)) 0 (0xFF ∷ 0xFF ∷ 0xFF ∷ 0xFF ∷ 0xFF ∷ 0xFF ∷ 0xFF ∷ 0x7F ∷ [])
@@ -84,5 +84,5 @@ abbrev pub trials : List Example → List Result
 trials es = map (λ (e : Example). given (e .trial)) es
 
 pub bench : (a b c d : ℕ) → trials (examples a b c d) ≡ map (λ (e : Example). e .wanted) (examples a b c d)
-unfolding all examples tableNames four schedule setting short measured pair oneOver entry given
+unfolding all examples tableNames fourRecords schedule setting shortRecord withLength twoOctets oneOver entry given
 bench a b c d = refl

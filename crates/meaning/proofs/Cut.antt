@@ -43,8 +43,8 @@ pub record Sent : Type 0 where
   pub octets : List ℕ
   pub room : List ℕ
 
-abbrev pub sent : List ℕ → List ℕ → Sent
-sent p room = record { octets = p; room = room }
+abbrev pub sentWith : List ℕ → List ℕ → Sent
+sentWith p room = record { octets = p; room = room }
 
 abbrev pub partsOf : List Sent → List (List ℕ)
 partsOf xs = map (λ (x : Sent). x .octets) xs
@@ -58,7 +58,7 @@ sendsWith m (x ∷ xs) =
 -- the parts with one room: each with the room that the call before it left
 unfoldable pub inOneRoom : List ℕ → List ℕ → List (List ℕ) → List Sent
 inOneRoom m room [] = []
-inOneRoom m room (p ∷ ps) = sent p room ∷ inOneRoom (message m (commandOf p) room .memory) (message m (commandOf p) room .room) ps
+inOneRoom m room (p ∷ ps) = sentWith p room ∷ inOneRoom (message m (commandOf p) room .memory) (message m (commandOf p) room .room) ps
 
 -- the memory after some calls
 unfoldable pub lastMemory : List ℕ → List Outcome → List ℕ

@@ -83,8 +83,8 @@ numbers =
 -- ---- lists: the wrong entry the first, the second or the last
 
 -- an entry of this operation, second octet and interval
-abbrev entry : ℕ → ℕ → List ℕ → List ℕ
-entry o t i = o ∷ t ∷ 0xFF ∷ i
+abbrev entryWith : ℕ → ℕ → List ℕ → List ℕ
+entryWith o t i = o ∷ t ∷ 0xFF ∷ i
 
 -- so many entries, each these octets
 unfoldable pub times : ℕ → List ℕ → List ℕ
@@ -93,23 +93,23 @@ times (suc n) e = e ++ times n e
 
 -- two right entries that differ in each octet that counts
 unfoldable pub one : List ℕ
-one = entry 0 5 (four 0 0 0 1)
+one = entryWith 0 5 (four 0 0 0 1)
 
 unfoldable pub two : List ℕ
-two = entry 2 5 (four 1 0 0 0)
+two = entryWith 2 5 (four 1 0 0 0)
 
 -- entries that are wrong
 unfoldable wrong : List (List ℕ)
 wrong =
-    entry 3 5 (four 0 0 0 1) ∷ entry 0 4 (four 0 0 0 1) ∷ entry 0 6 (four 0 0 0 1) ∷ entry 0 5 (four 0 0 0 0)
-    ∷ entry 0xFF 5 (four 0 0 0 1)
+    entryWith 3 5 (four 0 0 0 1) ∷ entryWith 0 4 (four 0 0 0 1) ∷ entryWith 0 6 (four 0 0 0 1) ∷ entryWith 0 5 (four 0 0 0 0)
+    ∷ entryWith 0xFF 5 (four 0 0 0 1)
     ∷ []
 
 unfoldable listTries : List Try
 unfolding fit break times one two wrong
 listTries =
     fit 0x0006
-    ([] ∷ one ∷ two ∷ (one ++ two) ∷ (two ++ one) ∷ (entry 1 5 (four 0 1 0 0) ++ entry 1 5 (four 0 0 1 0)) ∷ times 64 two ∷ (times 63 two ++ one) ∷ [])
+    ([] ∷ one ∷ two ∷ (one ++ two) ∷ (two ++ one) ∷ (entryWith 1 5 (four 0 1 0 0) ++ entryWith 1 5 (four 0 0 1 0)) ∷ times 64 two ∷ (times 63 two ++ one) ∷ [])
     ++ (break 0x0006 (times 65 two ∷ (one ++ (0 ∷ [])) ∷ (one ++ replicate 6 5) ∷ zeros 1 ∷ [])
     ++ (break 0x0006 wrong
     ++ (break 0x0006 (map (λ (e : List ℕ). one ++ e) wrong)

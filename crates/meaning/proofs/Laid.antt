@@ -13,28 +13,28 @@ use Rattle.meaning.proofs.Edges.{four, one, two, right, exact, blockOf}
 -- ---- the form
 
 -- an entry: its name, its flags (1 present, 2 subscribed, 4 pending), its value, the length of its room
-pub record Entry : Type 0 where
+pub record LaidEntry : Type 0 where
   pub name : ℕ
   pub flags : ℕ
   pub value : List ℕ
   pub room : ℕ
 
-abbrev pub holding : ℕ → ℕ → List ℕ → ℕ → Entry
+abbrev pub holding : ℕ → ℕ → List ℕ → ℕ → LaidEntry
 holding n f v r = record { name = n; flags = f; value = v; room = r }
 
 -- six octets for each (RULES 3.4), the timer's two, and each room filled up with zeros (RULES 3.9, 5.14)
-unfoldable pub laid : List Entry → ℕ → ℕ → List ℕ
+unfoldable pub laid : List LaidEntry → ℕ → ℕ → List ℕ
 laid es w n =
-    flat (λ (e : Entry). e .name / 256 ∷ e .name % 256 ∷ e .flags ∷ 0 ∷ length (e .value) / 256 ∷ length (e .value) % 256 ∷ []) es
-    ++ (w ∷ n ∷ flat (λ (e : Entry). e .value ++ zeros (e .room - length (e .value))) es)
+    flat (λ (e : LaidEntry). e .name / 256 ∷ e .name % 256 ∷ e .flags ∷ 0 ∷ length (e .value) / 256 ∷ length (e .value) % 256 ∷ []) es
+    ++ (w ∷ n ∷ flat (λ (e : LaidEntry). e .value ++ zeros (e .room - length (e .value))) es)
 
 -- the entry at place k another one
-unfoldable pub with : ℕ → Entry → List Entry → List Entry
+unfoldable pub with : ℕ → LaidEntry → List LaidEntry → List LaidEntry
 with k e es = take k es ++ (e ∷ drop (suc k) es)
 
 -- ---- fresh memory
 
-unfoldable pub fresh-entries : List Entry
+unfoldable pub fresh-entries : List LaidEntry
 fresh-entries =
     holding 0x0001 0 [] 8 ∷ holding 0x0003 1 (0 ∷ []) 1 ∷ holding 0x0004 0 [] 10 ∷ holding 0x0005 0 [] 4
     ∷ holding 0x0006 0 [] 448
@@ -60,12 +60,12 @@ fresh-laid = refl
 
 -- ---- a full memory: each value there but two, a block that runs, marks of every sort
 
-unfoldable pub block : List ℕ
+unfoldable pub runningBlock : List ℕ
 unfolding one two right exact blockOf
-block = blockOf right (four 0 0 0 2) (one ++ two) exact
+runningBlock = blockOf right (four 0 0 0 2) (one ++ two) exact
 
-unfoldable pub full : List Entry
-unfolding one two right exact block
+unfoldable pub full : List LaidEntry
+unfolding one two right exact runningBlock
 full =
     holding 0x0001 3 (replicate 8 0xFF) 8 ∷ holding 0x0003 1 (1 ∷ []) 1 ∷ holding 0x0004 1 right 10 ∷ holding 0x0005 3 (four 0 0 0 2) 4
     ∷ holding 0x0006 1 (one ++ two) 448
@@ -82,12 +82,12 @@ full =
     ∷ holding 0x00A2 6 [] 1
     ∷ holding 0x00A3 2 [] 255
     ∷ holding 0x00A4 1 (0 ∷ 120 ∷ []) 2
-    ∷ holding 0x8001 3 block 470
+    ∷ holding 0x8001 3 runningBlock 470
     ∷ []
 
 -- memories that are sound: waiting with the most expiries, and the four values changed under the block that runs
 unfoldable pub sounds : List (List ℕ)
-unfolding laid with full block one two right exact blockOf
+unfolding laid with full runningBlock one two right exact blockOf
 sounds =
     laid full 1 4
     ∷ laid (with 4 (holding 0x0006 1 [] 448) full) 0 0
@@ -95,14 +95,14 @@ sounds =
     ∷ []
 
 pub laid-sound : map sound sounds ≡ replicate 3 true
-unfolding all laid with full block one two right exact blockOf sounds
+unfolding all laid with full runningBlock one two right exact blockOf sounds
 laid-sound = refl
 
 -- ---- one step off
 
 -- an entry that is not right, at its place
-unfoldable pub wrongEntries : List (List Entry)
-unfolding with full block one two right exact blockOf
+unfoldable pub wrongEntries : List (List LaidEntry)
+unfolding with full runningBlock one two right exact blockOf
 wrongEntries =
     -- the name, in each octet (RULES 5.2)
     with 0 (holding 0x0002 1 (replicate 8 0xFF) 8) full
@@ -130,7 +130,7 @@ wrongEntries =
 
 -- octets that no entry spells: the length of all, octet 3 of a cell, a length past the room, the tail of a room, the timer (RULES 5.1, 5.3, 5.7, 5.13, 5.14)
 unfoldable pub wrongOctets : List (List ℕ)
-unfolding laid full block one two right exact blockOf
+unfolding laid full runningBlock one two right exact blockOf
 wrongOctets =
     let m = laid full 0 0 in
     take 2099 m ∷ (m ++ (0 ∷ [])) ∷ (take 3 m ++ (1 ∷ drop 4 m))
@@ -143,6 +143,6 @@ wrongOctets =
     ∷ laid full 2 0
     ∷ []
 
-pub laid-unsound : map sound (map (λ (es : List Entry). laid es 0 0) wrongEntries ++ wrongOctets) ≡ replicate 27 false
-unfolding all laid with full block one two right exact blockOf wrongEntries wrongOctets
+pub laid-unsound : map sound (map (λ (es : List LaidEntry). laid es 0 0) wrongEntries ++ wrongOctets) ≡ replicate 27 false
+unfolding all laid with full runningBlock one two right exact blockOf wrongEntries wrongOctets
 laid-unsound = refl

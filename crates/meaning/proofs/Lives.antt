@@ -10,10 +10,10 @@ use Rattle.meaning.specs.Memory.{fresh}
 use Rattle.meaning.specs.Calls.{Outcome}
 use Rattle.meaning.proofs.All.{all}
 use Rattle.meaning.proofs.Sendings.{Call, refresh, takeMessage, takeValue, buildIn, takeExpiry, gives}
-use Rattle.meaning.proofs.Wording.{pair, measured, reading, setting, subscribing, unsubscribing, held, short, cause, counted}
+use Rattle.meaning.proofs.Wording.{twoOctets, withLength, reading, setting, subscribing, unsubscribing, heldRecord, shortRecord, failedRecord, withCount}
 use Rattle.meaning.proofs.Bench.{Result, tableNames}
 use Rattle.meaning.proofs.Edges.{four, one, two, times, right, exact, blockOf}
-use Rattle.meaning.proofs.Laid.{Entry, holding, laid, with, fresh-entries, block, full}
+use Rattle.meaning.proofs.Laid.{LaidEntry, holding, laid, with, fresh-entries, runningBlock, full}
 
 -- ---- calls, and what comes of them
 
@@ -32,22 +32,22 @@ lived m (c ∷ cs) =
     andThen o (lived (o .memory) cs)
 
 -- whether two lives are alike, octet by octet. A statement over it is short also where it is false, which a list of 2,100 octets is not
-unfoldable alike : List ℕ → List ℕ → Bool
-alike [] [] = true
-alike [] (y ∷ ys) = false
-alike (x ∷ xs) [] = false
-alike (x ∷ xs) (y ∷ ys) = eqb x y && alike xs ys
+unfoldable sameOctets : List ℕ → List ℕ → Bool
+sameOctets [] [] = true
+sameOctets [] (y ∷ ys) = false
+sameOctets (x ∷ xs) [] = false
+sameOctets (x ∷ xs) (y ∷ ys) = eqb x y && sameOctets xs ys
 
-unfoldable allAlike : List Result → List Result → Bool
-unfolding alike
-allAlike [] [] = true
-allAlike [] (y ∷ ys) = false
-allAlike (x ∷ xs) [] = false
-allAlike (x ∷ xs) (y ∷ ys) = eqb (x .number) (y .number) && (alike (x .octets) (y .octets) && allAlike xs ys)
+unfoldable sameResults : List Result → List Result → Bool
+unfolding sameOctets
+sameResults [] [] = true
+sameResults [] (y ∷ ys) = false
+sameResults (x ∷ xs) [] = false
+sameResults (x ∷ xs) (y ∷ ys) = eqb (x .number) (y .number) && (sameOctets (x .octets) (y .octets) && sameResults xs ys)
 
 unfoldable pub agrees : Lived → Lived → Bool
-unfolding alike allAlike
-agrees l w = allAlike (l .results) (w .results) && alike (l .left) (w .left)
+unfolding sameOctets sameResults
+agrees l w = sameResults (l .results) (w .results) && sameOctets (l .left) (w .left)
 
 -- a call, the number that it returns and the octets that it writes
 pub record Turn : Type 0 where
@@ -65,8 +65,8 @@ results ts = map (λ (t : Turn). t .wanted) ts
 
 -- a command of these operations, with room for its reply
 unfoldable pub command : List (List ℕ) → Call
-unfolding pair measured
-command os = takeMessage (1 ∷ measured (flat (λ (o : List ℕ). o) os)) (zeros 600)
+unfolding twoOctets withLength
+command os = takeMessage (1 ∷ withLength (flat (λ (o : List ℕ). o) os)) (zeros 600)
 
 unfoldable pub acknowledgement : Call
 acknowledgement = takeMessage (4 ∷ []) (zeros 1)
@@ -78,7 +78,7 @@ abbrev sumsOfBoth : List ℕ
 sumsOfBoth = four 0x0C 0x46 0x37 0xC5
 
 unfoldable pub controlled : List Turn
-unfolding command subscribing setting reading measured pair held short cause counted one two times right exact
+unfolding command subscribing setting reading withLength twoOctets heldRecord shortRecord failedRecord withCount one two times right exact
 controlled =
     turn (command (subscribing 0x0003 ∷ setting 0x0003 (1 ∷ []) ∷ setting 0x0002 (1 ∷ []) ∷ setting 0x0001 (zeros 8) ∷ setting 0x000B (four 0 0 0 64)
     ∷ setting 0x0003 (2 ∷ [])
@@ -87,36 +87,36 @@ controlled =
     ∷ reading 0x0004
     ∷ reading 0x0002
     ∷ [])) 0
-    (0x02 ∷ 0x71 ∷ measured (counted (held 0x0003 (1 ∷ []) ∷ []) ++ counted (cause 0x0004 3 ∷ cause 0x0002 1 ∷ []))
+    (0x02 ∷ 0x71 ∷ withLength (withCount (heldRecord 0x0003 (1 ∷ []) ∷ []) ++ withCount (failedRecord 0x0004 3 ∷ failedRecord 0x0002 1 ∷ []))
     ++ (0x72
-    ∷ measured (counted (short 0x0003 (1 ∷ []) ∷ [])
-    ++ counted (cause 0x0002 1 ∷ cause 0x0001 0x6F ∷ cause 0x000B 0x6F ∷ cause 0x0003 2 ∷ cause 0x0005 2 ∷ []))))
+    ∷ withLength (withCount (shortRecord 0x0003 (1 ∷ []) ∷ [])
+    ++ withCount (failedRecord 0x0002 1 ∷ failedRecord 0x0001 0x6F ∷ failedRecord 0x000B 0x6F ∷ failedRecord 0x0003 2 ∷ failedRecord 0x0005 2 ∷ []))))
     ∷ turn (command (setting 0x8001 (zeros 4) ∷ setting 0x0004 right ∷ setting 0x0005 (four 0 0 0 2) ∷ setting 0x0006 (one ++ two)
     ∷ setting 0x0007 exact
     ∷ setting 0x8001 (zeros 4)
     ∷ setting 0x8001 sumsOfBoth
     ∷ reading 0x8001
     ∷ [])) 0
-    (0x02 ∷ 0x71 ∷ measured (counted (held 0x8001 sumsOfBoth ∷ []) ++ counted [])
+    (0x02 ∷ 0x71 ∷ withLength (withCount (heldRecord 0x8001 sumsOfBoth ∷ []) ++ withCount [])
     ++ (0x72
-    ∷ measured (counted (short 0x0004 right ∷ short 0x0005 (four 0 0 0 2) ∷ short 0x0006 (one ++ two) ∷ short 0x0007 exact ∷ short 0x8001 sumsOfBoth ∷ [])
-    ++ counted (cause 0x8001 2 ∷ cause 0x8001 2 ∷ []))))
+    ∷ withLength (withCount (shortRecord 0x0004 right ∷ shortRecord 0x0005 (four 0 0 0 2) ∷ shortRecord 0x0006 (one ++ two) ∷ shortRecord 0x0007 exact ∷ shortRecord 0x8001 sumsOfBoth ∷ [])
+    ++ withCount (failedRecord 0x8001 2 ∷ failedRecord 0x8001 2 ∷ []))))
     ∷ turn (command (setting 0x0006 one ∷ setting 0x8001 (four 0x0B 0x3F 0xE7 0x10) ∷ setting 0x0005 (zeros 4) ∷ setting 0x0006 []
     ∷ setting 0x8001 (four 0x0A 0x38 0x9D 0x8D)
     ∷ reading 0x8001
     ∷ reading 0x0006
     ∷ [])) 0
-    (0x02 ∷ 0x71 ∷ measured (counted (held 0x8001 sumsOfBoth ∷ held 0x0006 [] ∷ []) ++ counted [])
+    (0x02 ∷ 0x71 ∷ withLength (withCount (heldRecord 0x8001 sumsOfBoth ∷ heldRecord 0x0006 [] ∷ []) ++ withCount [])
     ++ (0x72
-    ∷ measured (counted (short 0x0006 one ∷ short 0x0005 (zeros 4) ∷ short 0x0006 [] ∷ []) ++ counted (cause 0x8001 2 ∷ cause 0x8001 2 ∷ []))))
-    ∷ turn (command (setting 0x0006 (times 36 one) ∷ [])) 0 (0x02 ∷ 0x72 ∷ measured (counted (short 0x0006 (times 36 one) ∷ []) ++ counted []))
+    ∷ withLength (withCount (shortRecord 0x0006 one ∷ shortRecord 0x0005 (zeros 4) ∷ shortRecord 0x0006 [] ∷ []) ++ withCount (failedRecord 0x8001 2 ∷ failedRecord 0x8001 2 ∷ []))))
+    ∷ turn (command (setting 0x0006 (times 36 one) ∷ [])) 0 (0x02 ∷ 0x72 ∷ withLength (withCount (shortRecord 0x0006 (times 36 one) ∷ []) ++ withCount []))
     ∷ turn (command (setting 0x0006 (times 37 two) ∷ [])) 0
-    (0x02 ∷ 0x72 ∷ measured (counted [] ++ (counted [] ++ measured (held 0x0006 (times 37 two)))))
-    ∷ turn (command (setting 0x0002 [] ∷ [])) 0 (0x02 ∷ 0x72 ∷ measured (counted [] ++ counted (cause 0x0002 1 ∷ [])))
+    (0x02 ∷ 0x72 ∷ withLength (withCount [] ++ (withCount [] ++ withLength (heldRecord 0x0006 (times 37 two)))))
+    ∷ turn (command (setting 0x0002 [] ∷ [])) 0 (0x02 ∷ 0x72 ∷ withLength (withCount [] ++ withCount (failedRecord 0x0002 1 ∷ [])))
     ∷ []
 
 -- the block that runs is the one that was committed
-unfoldable pub controlled-entries : List Entry
+unfoldable pub controlled-entries : List LaidEntry
 unfolding fresh-entries with one two times right exact blockOf
 controlled-entries =
     with 1 (holding 0x0003 3 (1 ∷ []) 1)
@@ -127,13 +127,13 @@ controlled-entries =
     (with 18 (holding 0x8001 1 (blockOf right (four 0 0 0 2) (one ++ two) exact) 470) fresh-entries)))))
 
 pub controlled-life : agrees (lived fresh (calls controlled)) (record { results = results controlled; left = laid controlled-entries 0 0 }) ≡ true
-unfolding all gives agrees alike allAlike lived controlled command subscribing setting reading measured pair held short cause counted one two times right exact blockOf laid with fresh-entries controlled-entries
+unfolding all gives agrees sameOctets sameResults lived controlled command subscribing setting reading withLength twoOctets heldRecord shortRecord failedRecord withCount one two times right exact blockOf laid with fresh-entries controlled-entries
 controlled-life = refl
 
 -- ---- what a port's own values do
 
 unfoldable pub reported : List Turn
-unfolding command acknowledgement reading subscribing unsubscribing measured pair held cause counted
+unfolding command acknowledgement reading subscribing unsubscribing withLength twoOctets heldRecord failedRecord withCount
 reported =
     turn (command (subscribing 0x0008 ∷ subscribing 0x00A1 ∷ subscribing 0x00A4 ∷ subscribing 0x0002 ∷ [])) 0 (2 ∷ [])
     ∷ turn (takeValue 0x0008 (four 1 2 3 4)) 0 []
@@ -145,15 +145,15 @@ reported =
     ∷ turn (takeValue 0x0008 (1 ∷ 2 ∷ 3 ∷ [])) 12 []
     ∷ turn (buildIn (zeros 1599)) 11 []
     ∷ turn (buildIn (zeros 1600)) 0
-    (3 ∷ measured (counted (held 0x0008 (four 1 2 3 4) ∷ held 0x00A4 (0 ∷ 120 ∷ []) ∷ []) ++ counted []))
+    (3 ∷ withLength (withCount (heldRecord 0x0008 (four 1 2 3 4) ∷ heldRecord 0x00A4 (0 ∷ 120 ∷ []) ∷ []) ++ withCount []))
     ∷ turn (buildIn (zeros 1600)) 10 []
-    ∷ turn (command (reading 0x0008 ∷ [])) 0 (2 ∷ 0x71 ∷ measured (counted (held 0x0008 (four 1 2 3 4) ∷ []) ++ counted []))
+    ∷ turn (command (reading 0x0008 ∷ [])) 0 (2 ∷ 0x71 ∷ withLength (withCount (heldRecord 0x0008 (four 1 2 3 4) ∷ []) ++ withCount []))
     ∷ turn (takeValue 0x00A1 (9 ∷ 9 ∷ 9 ∷ [])) 0 []
     ∷ turn takeExpiry 20 []
     ∷ turn acknowledgement 0 (5 ∷ [])
     ∷ turn acknowledgement 8 []
     ∷ turn (takeValue 0x00A1 []) 0 []
-    ∷ turn (buildIn (zeros 1601)) 0 (3 ∷ measured (counted [] ++ counted (cause 0x00A1 3 ∷ [])))
+    ∷ turn (buildIn (zeros 1601)) 0 (3 ∷ withLength (withCount [] ++ withCount (failedRecord 0x00A1 3 ∷ [])))
     ∷ turn takeExpiry 20 []
     ∷ turn takeExpiry 20 []
     ∷ turn takeExpiry 20 []
@@ -167,7 +167,7 @@ reported =
     ∷ turn (command (unsubscribing 0x00A4 ∷ subscribing 0x0008 ∷ [])) 0 (2 ∷ [])
     ∷ []
 
-unfoldable pub reported-entries : List Entry
+unfoldable pub reported-entries : List LaidEntry
 unfolding fresh-entries with
 reported-entries =
     with 6 (holding 0x0008 7 (four 1 2 3 5) 4)
@@ -175,14 +175,14 @@ reported-entries =
     (with 16 (holding 0x00A3 1 (7 ∷ 8 ∷ 9 ∷ []) 255) (with 17 (holding 0x00A4 1 (0 ∷ 121 ∷ []) 2) fresh-entries)))
 
 pub reported-life : agrees (lived fresh (calls reported)) (record { results = results reported; left = laid reported-entries 0 0 }) ≡ true
-unfolding all gives agrees alike allAlike lived reported command acknowledgement reading subscribing unsubscribing measured pair held cause counted laid with fresh-entries reported-entries
+unfolding all gives agrees sameOctets sameResults lived reported command acknowledgement reading subscribing unsubscribing withLength twoOctets heldRecord failedRecord withCount laid with fresh-entries reported-entries
 reported-life = refl
 
 -- ---- made fresh
 
 -- whatever was there, a notification that waits too
 pub fresh-life : agrees (lived (laid full 1 4) (refresh ∷ [])) (record { results = record { number = 0; octets = [] } ∷ []; left = laid fresh-entries 0 0 }) ≡ true
-unfolding all gives agrees alike allAlike lived laid with fresh-entries full block one two right exact blockOf
+unfolding all gives agrees sameOctets sameResults lived laid with fresh-entries full runningBlock one two right exact blockOf
 fresh-life = refl
 
 -- ---- refusals
@@ -191,7 +191,7 @@ fresh-life = refl
 pub unsound-life : agrees (lived [] (refresh ∷ takeMessage (1 ∷ 0 ∷ 1 ∷ 1 ∷ []) (zeros 64) ∷ takeValue 0x0008 (four 0 0 0 0) ∷ buildIn (zeros 1600) ∷ takeExpiry ∷ []))
     (record { results = replicate 5 (record { number = 1; octets = [] }); left = [] })
     ≡ true
-unfolding all gives agrees alike allAlike lived
+unfolding all gives agrees sameOctets sameResults lived
 unsound-life = refl
 
 -- messages into fresh memory, none of which changes it: each with its room's length
@@ -218,19 +218,19 @@ refused =
     ∷ []
 
 pub refused-life : agrees (lived fresh (calls refused)) (record { results = results refused; left = laid fresh-entries 0 0 }) ≡ true
-unfolding all gives agrees alike allAlike lived refused tableNames laid fresh-entries
+unfolding all gives agrees sameOctets sameResults lived refused tableNames laid fresh-entries
 refused-life = refl
 
 -- so many records of a kind as a count can tell, and one more: reads and sets that fail, and that do not
-unfoldable pub many : ℕ → List ℕ → Call
-unfolding pair measured times
-many n o = takeMessage (1 ∷ measured (times n o)) (zeros 4096)
+unfoldable pub repeated : ℕ → List ℕ → Call
+unfolding twoOctets withLength times
+repeated n o = takeMessage (1 ∷ withLength (times n o)) (zeros 4096)
 
-pub counts-life : map (λ (c : Call). gives fresh c .number) (many 255 (reading 2) ∷ many 256 (reading 2) ∷ many 255 (reading 3) ∷ many 256 (reading 3)
-    ∷ many 255 (setting 2 [])
-    ∷ many 256 (setting 2 [])
-    ∷ many 255 (setting 3 (1 ∷ []))
-    ∷ many 256 (setting 3 (1 ∷ []))
+pub counts-life : map (λ (c : Call). gives fresh c .number) (repeated 255 (reading 2) ∷ repeated 256 (reading 2) ∷ repeated 255 (reading 3) ∷ repeated 256 (reading 3)
+    ∷ repeated 255 (setting 2 [])
+    ∷ repeated 256 (setting 2 [])
+    ∷ repeated 255 (setting 3 (1 ∷ []))
+    ∷ repeated 256 (setting 3 (1 ∷ []))
     ∷ []) ≡ 0 ∷ 7 ∷ 0 ∷ 7 ∷ 0 ∷ 7 ∷ 0 ∷ 7 ∷ []
-unfolding all gives many pair measured times reading setting
+unfolding all gives repeated twoOctets withLength times reading setting
 counts-life = refl

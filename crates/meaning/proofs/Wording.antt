@@ -5,43 +5,43 @@ use lib.ListN.{length}
 use Rattle.meaning.specs.Octets.{flat}
 
 -- a number of two octets
-unfoldable pub pair : ℕ → List ℕ
-pair n = n / 256 ∷ n % 256 ∷ []
+unfoldable pub twoOctets : ℕ → List ℕ
+twoOctets n = n / 256 ∷ n % 256 ∷ []
 
 -- octets behind their length
-unfoldable pub measured : List ℕ → List ℕ
-unfolding pair
-measured s = pair (length s) ++ s
+unfoldable pub withLength : List ℕ → List ℕ
+unfolding twoOctets
+withLength s = twoOctets (length s) ++ s
 
 unfoldable pub reading : ℕ → List ℕ
-unfolding pair
-reading n = 2 ∷ pair n
+unfolding twoOctets
+reading n = 2 ∷ twoOctets n
 
 unfoldable pub setting : ℕ → List ℕ → List ℕ
-unfolding pair measured
-setting n v = 3 ∷ pair n ++ measured v
+unfolding twoOctets withLength
+setting n v = 3 ∷ twoOctets n ++ withLength v
 
 unfoldable pub subscribing : ℕ → List ℕ
-unfolding pair
-subscribing n = 4 ∷ pair n
+unfolding twoOctets
+subscribing n = 4 ∷ twoOctets n
 
 unfoldable pub unsubscribing : ℕ → List ℕ
-unfolding pair
-unsubscribing n = 5 ∷ pair n
+unfolding twoOctets
+unsubscribing n = 5 ∷ twoOctets n
 
 -- records: a value behind a length of two octets, of one octet, a cause
-unfoldable pub held : ℕ → List ℕ → List ℕ
-unfolding pair measured
-held n v = pair n ++ measured v
+unfoldable pub heldRecord : ℕ → List ℕ → List ℕ
+unfolding twoOctets withLength
+heldRecord n v = twoOctets n ++ withLength v
 
-unfoldable pub short : ℕ → List ℕ → List ℕ
-unfolding pair
-short n v = pair n ++ (length v ∷ v)
+unfoldable pub shortRecord : ℕ → List ℕ → List ℕ
+unfolding twoOctets
+shortRecord n v = twoOctets n ++ (length v ∷ v)
 
-unfoldable pub cause : ℕ → ℕ → List ℕ
-unfolding pair
-cause n c = pair n ++ (c ∷ [])
+unfoldable pub failedRecord : ℕ → ℕ → List ℕ
+unfolding twoOctets
+failedRecord n c = twoOctets n ++ (c ∷ [])
 
 -- so many records, behind their count
-unfoldable pub counted : List (List ℕ) → List ℕ
-counted rs = length rs ∷ flat (λ (r : List ℕ). r) rs
+unfoldable pub withCount : List (List ℕ) → List ℕ
+withCount rs = length rs ∷ flat (λ (r : List ℕ). r) rs

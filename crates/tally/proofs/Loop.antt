@@ -28,8 +28,8 @@ use Rattle.command.proofs.Shown.{shown-short}
 use Rattle.command.proofs.Told.{told-back}
 use Rattle.command.proofs.Walk.{Under, rest, under-start, under-end, under-ahead, under-rest, under-turn}
 use Rattle.tally.specs.declared.Tally.{Tally}
-use Rattle.tally.specs.Tallies.{plus, noCount, noTally, tallyOf, counted, Small, Below}
-use Rattle.tally.proofs.Plus.{held-octets, short-octets, Light, plus-joined, plus-below, below-more, silent-added, counted-is}
+use Rattle.tally.specs.Tallies.{plus, noCount, noTally, tallyOf, tallied, Small, Below}
+use Rattle.tally.proofs.Plus.{held-octets, short-octets, Light, plus-joined, plus-below, below-more, silent-added, tallied-is}
 
 -- ---- what a turn adds
 
@@ -101,13 +101,13 @@ module _ (m list copy : List ℕ) (t : Tally) (changed : Bool) (at : ℕ) (u : C
       )
 
   pub counting-turn : (o : Op) (next : ℕ) → h ≡ Operation o next → length list ≤ 2048 → (copy′ : List ℕ) (a : Answer) (t′ : Tally) (b : Bool)
-      → copy′ ≡ step copy (opOf list o) → a ≡ told (answer copy (opOf list o)) → t′ ≡ counted copy′ t o a → b ≡ mayChange a
+      → copy′ ≡ step copy (opOf list o) → a ≡ told (answer copy (opOf list o)) → t′ ≡ tallied copy′ t o a → b ≡ mayChange a
       → Counting m list copy′ t′ (changed || b) next
   unfolding records gathered answers anyChange
   counting-turn o next e long copy′ a t′ b q p adds tells =
       let w = under-ahead m list copy at (u .under) h hands o next e in
       let back = told-back copy list o copy′ a q p in
-      let x : t′ ≡ plus t (recordOf (answerOf copy′ list o a)) = adds ∙ counted-is copy′ list t o a (inside-value (length list) o (w .2)) in
+      let x : t′ ≡ plus t (recordOf (answerOf copy′ list o a)) = adds ∙ tallied-is copy′ list t o a (inside-value (length list) o (w .2)) in
       let y : b ≡ mayChange (told (answer copy (opOf list o))) = tells ∙ ap mayChange p in
       let r = under-rest m list copy at (u .under) h hands o next e in
       record {

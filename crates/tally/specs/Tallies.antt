@@ -40,8 +40,8 @@ unfoldable pub tallyOf : Records → Tally
 tallyOf r = plus noTally r
 
 -- a tally, and the record of an answer to an operation more. Of a set's value its length alone counts, so zeros stand for the list
-unfoldable pub counted : List ℕ → Tally → Op → Answer → Tally
-counted m t o a = plus t (recordOf (answerOf m (zeros (fromOf o + sizeOf o)) o a))
+unfoldable pub tallied : List ℕ → Tally → Op → Answer → Tally
+tallied m t o a = plus t (recordOf (answerOf m (zeros (fromOf o + sizeOf o)) o a))
 
 -- ---- what the code asks and says of a tally
 

@@ -12,7 +12,7 @@ ghost use Rattle.meaning.specs.Step.{shown, after, answers};
 ghost use Rattle.meaning.specs.Calls.{records};
 ghost use Rattle.operation.specs.Handing.{Inside};
 ghost use Rattle.command.specs.Answers.{InTable, anyChange};
-ghost use Rattle.tally.specs.Tallies.{grown, tallyOf, counted, Below, anyRead, anySet, readOctets, setOctets, elementLength, replyLength, tallyFits};
+ghost use Rattle.tally.specs.Tallies.{grown, tallyOf, tallied, Below, anyRead, anySet, readOctets, setOctets, elementLength, replyLength, tallyFits};
 use command::Answer;
 use operation::Handed;
 use operation::Op;
@@ -64,7 +64,7 @@ fn shown_length(m: &[u8], k: usize) -> usize
 // A tally and the record of one answer more, to an operation.
 fn add(t: Tally, m: &[u8], op: Op, a: Answer) -> Tally
     requires { ⌜ (length (now m) ≡ memoryLength) × Below 16777216 t × Inside messageMost op × InTable a ⌝ }
-    ensures { λ r. ⌜ r ≡ counted (now (m .entry)) t op a ⌝ }
+    ensures { λ r. ⌜ r ≡ tallied (now (m .entry)) t op a ⌝ }
 {
     let mut r = t;
     match a {

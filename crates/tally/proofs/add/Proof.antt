@@ -9,7 +9,7 @@ use Rattle.meaning.specs.Octets.{zeros, part}
 use Rattle.operation.specs.Handing.{nameOf, fromOf, sizeOf}
 use Rattle.operation.proofs.Turns.{inside-value}
 use Rattle.command.specs.Answers.{answerOf}
-use Rattle.tally.specs.Tallies.{grown, counted}
+use Rattle.tally.specs.Tallies.{grown, tallied}
 use Rattle.tally.proofs.Plus.{names-added, silent-added, value-added, readError-added, updateError-added, update-added, long-added, zeros-part}
 use Rattle.tally.proofs.add.Statement.{statement}
 use Rattle.tally.proofs.add.Tie as tie
@@ -66,7 +66,7 @@ one-more-requires-3 : tie.Need-one-more-requires-3
 one-more-requires-3 c κs = search needs
 
 returns : tie.Need-returns
-unfolding counted answerOf
+unfolding tallied answerOf
 returns c =
     let k = c .before .before .before in
     let a = c .before .before .before .before .before .before .before .args in
@@ -92,21 +92,21 @@ enum-told-5 : tie.Need-enum-told-5
 enum-told-5 c = search needs
 
 returns-2 : tie.Need-returns-2
-unfolding counted answerOf
+unfolding tallied answerOf
 returns-2 c = rw (c .enum-told .given .1) (names-added (c .before .before .before .args .t))
 
 returns-3 : tie.Need-returns-3
-unfolding counted answerOf
+unfolding tallied answerOf
 returns-3 c =
     let t = c .before .before .before .before .before .before .before .args .t in
     rw (c .before .before .before .before .a .given .1) (value-added t _ _ (c .one-more .ensures ∙ ap (λ (n : ℕ). grown (t .values) 1 (4 + n)) (c .before .shown-length .ensures .0)))
 
 returns-4 : tie.Need-returns-4
-unfolding counted answerOf
+unfolding tallied answerOf
 returns-4 c = rw (c .before .before .enum-told2 .given .1) (readError-added (c .before .before .before .before .before .args .t) _ _ (c .one-more2 .ensures))
 
 returns-5 : tie.Need-returns-5
-unfolding counted answerOf
+unfolding tallied answerOf
 returns-5 c =
     let k = c .before .before .before in
     let a = c .before .before .before .before .before .before .before .args in
@@ -115,11 +115,11 @@ returns-5 c =
     (long-added (a .t) (nameOf (a .op)) (stands k) (omega (arith, l, c .before .before .if1 .left)) (c .one-more4 .ensures ∙ ap (λ (n : ℕ). grown (a .t .«long_updates») 1 (4 + n)) (sym l)))
 
 returns-6 : tie.Need-returns-6
-unfolding counted answerOf
+unfolding tallied answerOf
 returns-6 c = rw (c .before .before .enum-told4 .given .1) (updateError-added (c .before .before .before .before .before .args .t) _ _ (c .one-more5 .ensures))
 
 returns-7 : tie.Need-returns-7
-unfolding counted answerOf
+unfolding tallied answerOf
 returns-7 c = rw (c .enum-told5 .given .1) (silent-added (c .before .before .before .args .t))
 
 pub add-spec : {M : Type 1} → statement M
