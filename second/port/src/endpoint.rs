@@ -13,7 +13,7 @@ const NOTIFY_COMPLETE: u8 = 0x05;
 const LONGEST_MESSAGE: usize = 2_048;
 const LEAST_NOTIFICATION_ROOM: usize = 1_600;
 
-/// The number that a call returns.
+/// The number that a call returns, or with which a captured message is refused.
 #[derive(Clone, Copy, Debug, PartialEq, Eq, PartialOrd, Ord, Hash)]
 #[repr(u8)]
 pub enum Number {
@@ -23,7 +23,7 @@ pub enum Number {
     MemoryUnsound = 1,
     /// A message of no octets (RULES 15.3).
     MessageEmpty = 2,
-    /// A message of more than 2,048 octets (RULES 15.4).
+    /// A message of more than 2,048 octets (RULES 15.4), a captured one of more than 4,096.
     MessageTooLong = 3,
     /// A message of another type (RULES 15.5).
     UnknownType = 4,
@@ -43,6 +43,10 @@ pub enum Number {
     RoomTooSmall = 11,
     /// A local value that section 13 of the rules does not allow (RULES 15.13).
     NotPermitted = 12,
+    /// A captured message that is neither COMPLETE nor NOTIFY.
+    NotCaptured = 13,
+    /// A captured message with an element or a record cut short, or with octets left over in one.
+    CutShort = 14,
     /// The notification is to be sent again.
     SendAgain = 20,
     /// The notification is given up.

@@ -1,13 +1,16 @@
-//! Bightmoor's second port management endpoint: five calls over one port's lent memory, and the
-//! delay conversion. It needs no operating system, no heap and no other crate.
+//! Bightmoor's second port management endpoint: five calls over one port's lent memory, the delay
+//! conversion, and a reader of captured messages. It needs no operating system, no heap and no other
+//! crate.
 #![no_std]
 #![forbid(unsafe_code)]
 #![warn(missing_docs)]
 
 mod block;
+mod capture;
 mod draft;
 mod endpoint;
 mod memory;
+mod octets;
 mod operation;
 mod reply;
 mod rules;
@@ -16,8 +19,10 @@ pub mod delay;
 pub mod table;
 
 pub use block::{last_four, Block, LIST_ENTRY};
+pub use capture::{read_capture, Capture, CaptureType, Captured, CapturedRecords, LONGEST_CAPTURE};
 pub use delay::{DelayUnits, Nanoseconds};
 pub use endpoint::{
     build_notification, make_fresh, take_expiry, take_local_value, take_message, Answer, Number,
 };
 pub use memory::{value_in, FRESH, PENDING, PRESENT, SUBSCRIBED};
+pub use reply::Cause;

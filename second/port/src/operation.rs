@@ -1,5 +1,7 @@
 //! The operations of a command, as they follow one another in its octets (RULES 10.10).
 
+use crate::octets::Octets;
+
 /// One operation.
 #[derive(Clone, Copy, Debug, PartialEq, Eq)]
 pub enum Operation<'m> {
@@ -22,38 +24,26 @@ pub struct Malformed;
 /// Hands out the operations of a list; nothing more follows a malformed one.
 #[derive(Clone)]
 pub struct Operations<'m> {
-    rest: &'m [u8],
+    rest: Octets<'m>,
 }
 
 impl<'m> Operations<'m> {
     /// Starts at the first octet of `list`.
     pub fn of(list: &'m [u8]) -> Operations<'m> {
-        Operations { rest: list }
-    }
-
-    fn take(&mut self, count: usize) -> Option<&'m [u8]> {
-        let (taken, rest) = self.rest.split_at_checked(count)?;
-        self.rest = rest;
-        Some(taken)
-    }
-
-    fn number(&mut self) -> Option<u16> {
-        let (number, rest) = self.rest.split_first_chunk()?;
-        self.rest = rest;
-        Some(u16::from_be_bytes(*number))
+        Operations { rest: Octets(list) }
     }
 
     fn body(&mut self, code: u8) -> Option<Operation<'m>> {
         Some(match code {
             1 => Operation::GetCapabilities,
-            2 => Operation::Read(self.number()?),
+            2 => Operation::Read(self.rest.number()?),
             3 => {
-                let name = self.number()?;
-                let length = self.number()?;
-                Operation::Set(name, self.take(length.into())?)
+                let name = self.rest.number()?;
+                let length = self.rest.number()?;
+                Operation::Set(name, self.rest.take(length.into())?)
             }
-            4 => Operation::Subscribe(self.number()?),
-            5 => Operation::Unsubscribe(self.number()?),
+            4 => Operation::Subscribe(self.rest.number()?),
+            5 => Operation::Unsubscribe(self.rest.number()?),
             _ => return None,
         })
     }
@@ -63,11 +53,10 @@ impl<'m> Iterator for Operations<'m> {
     type Item = Result<Operation<'m>, Malformed>;
 
     fn next(&mut self) -> Option<Self::Item> {
-        let (&code, rest) = self.rest.split_first()?;
-        self.rest = rest;
+        let code = self.rest.octet()?;
         let operation = self.body(code);
         if operation.is_none() {
-            self.rest = &[];
+            self.rest = Octets(&[]);
         }
         Some(operation.ok_or(Malformed))
     }

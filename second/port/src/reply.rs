@@ -2,11 +2,16 @@
 
 use crate::table::{COUNT, TABLE};
 
-const COMPLETE: u8 = 0x02;
-const NOTIFY: u8 = 0x03;
-const CAPABILITY: u8 = 0x70;
-const STATUS: u8 = 0x71;
-const UPDATE_RESULT: u8 = 0x72;
+/// The type of a reply.
+pub const COMPLETE: u8 = 0x02;
+/// The type of a notification.
+pub const NOTIFY: u8 = 0x03;
+/// The element that lists names.
+pub const CAPABILITY: u8 = 0x70;
+/// The element of reads.
+pub const STATUS: u8 = 0x71;
+/// The element of sets.
+pub const UPDATE_RESULT: u8 = 0x72;
 
 /// Longest reply.
 const LONGEST: usize = 4_096;
@@ -44,6 +49,11 @@ pub enum Cause {
 }
 
 impl Cause {
+    /// Its octet.
+    pub fn octet(self) -> u8 {
+        self.octets()[0]
+    }
+
     fn octets(self) -> &'static [u8] {
         match self {
             Cause::NotSupported => &[0x01],

@@ -1,4 +1,5 @@
-//! Input and output in blocks: pieces that tell their own length, and lines with hexadecimal.
+//! Input and output in blocks: pieces that tell their own length, blocks as they come, and lines with
+//! hexadecimal.
 
 use std::io::{self, ErrorKind, Read, Write};
 
@@ -66,16 +67,43 @@ impl<R: Read> Pieces<R> {
         self.block.copy_within(self.from..self.to, 0);
         self.to -= self.from;
         self.from = 0;
-        loop {
-            match self.source.read(&mut self.block[self.to..]) {
-                Err(error) if error.kind() == ErrorKind::Interrupted => {}
-                Err(error) => return Err(error),
-                Ok(count) => {
-                    self.to += count;
-                    return Ok(count > 0);
-                }
-            }
+        let count = read_once(&mut self.source, &mut self.block[self.to..])?;
+        self.to += count;
+        Ok(count > 0)
+    }
+}
+
+/// Reads once, however often that is interrupted before; 0 at the end of the input.
+fn read_once<R: Read>(source: &mut R, room: &mut [u8]) -> io::Result<usize> {
+    loop {
+        match source.read(room) {
+            Err(error) if error.kind() == ErrorKind::Interrupted => {}
+            result => return result,
         }
+    }
+}
+
+/// Reads blocks from a source, whatever they hold.
+pub struct Blocks<R> {
+    source: R,
+    block: Vec<u8>,
+}
+
+impl<R: Read> Blocks<R> {
+    /// Blocks of `source`.
+    pub fn new(source: R) -> Blocks<R> {
+        Blocks {
+            source,
+            block: vec![0; INPUT_BLOCK],
+        }
+    }
+
+    /// The next block, which is empty at the end of the input. Before waiting for it, all lines are
+    /// written out, as they are for pieces.
+    pub fn next<W: Write>(&mut self, lines: &mut Lines<W>) -> io::Result<&[u8]> {
+        lines.write_out()?;
+        let count = read_once(&mut self.source, &mut self.block)?;
+        Ok(&self.block[..count])
     }
 }
 
@@ -96,8 +124,13 @@ impl<W: Write> Lines<W> {
 
     /// A line of the given text.
     pub fn text(&mut self, text: &str) -> io::Result<()> {
-        self.due.extend_from_slice(text.as_bytes());
+        self.part(text);
         self.end_line()
+    }
+
+    /// A part of a line: text.
+    pub fn part(&mut self, text: &str) {
+        self.due.extend_from_slice(text.as_bytes());
     }
 
     /// A line of the given octets.
@@ -122,7 +155,8 @@ impl<W: Write> Lines<W> {
         written.and_then(|()| self.sink.flush())
     }
 
-    fn hex(&mut self, octets: &[u8]) {
+    /// A part of a line: octets, or `-` where there are none.
+    pub fn hex(&mut self, octets: &[u8]) {
         if octets.is_empty() {
             self.due.push(b'-');
             return;
@@ -135,7 +169,8 @@ impl<W: Write> Lines<W> {
         }
     }
 
-    fn end_line(&mut self) -> io::Result<()> {
+    /// Ends a line.
+    pub fn end_line(&mut self) -> io::Result<()> {
         self.due.push(b'\n');
         if self.due.len() >= OUTPUT_BLOCK {
             self.write_out()?;

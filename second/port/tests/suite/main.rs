@@ -1,10 +1,12 @@
 //! All tests of the port, in one program.
 
+mod captures;
 mod cut_law;
 mod examples;
 mod no_panic;
 mod numbers;
 mod order;
+mod read_back;
 mod rules;
 mod sound;
 mod soundness;

@@ -104,9 +104,18 @@ fn a_peer_on_a_pipe_gets_each_answer() {
 }
 
 /// Hands out its octets one by one, and is interrupted before each.
-struct Drip<'a> {
+pub struct Drip<'a> {
     octets: &'a [u8],
     interrupted: bool,
+}
+
+impl Drip<'_> {
+    pub fn of(octets: &[u8]) -> Drip<'_> {
+        Drip {
+            octets,
+            interrupted: false,
+        }
+    }
 }
 
 impl Read for Drip<'_> {
@@ -127,22 +136,21 @@ impl Read for Drip<'_> {
 fn input_may_come_in_drops() {
     let octets = hex("0003010003 0006010003020003 0000 0006010003");
     let mut output = Vec::new();
-    let input = Drip {
-        octets: &octets,
-        interrupted: false,
-    };
-    programs::bridge::run(input, &mut output).unwrap();
+    programs::bridge::run(Drip::of(&octets), &mut output).unwrap();
     assert_eq!(text(&output), "5 -\n0 0271000701000300010000\n2 -\ncut\n");
+}
+
+/// Fails to be read.
+pub struct Broken;
+
+impl Read for Broken {
+    fn read(&mut self, _: &mut [u8]) -> io::Result<usize> {
+        Err(io::Error::other("broken"))
+    }
 }
 
 #[test]
 fn a_read_error_is_told_after_the_lines_that_are_due() {
-    struct Broken;
-    impl Read for Broken {
-        fn read(&mut self, _: &mut [u8]) -> io::Result<usize> {
-            Err(io::Error::other("broken"))
-        }
-    }
     let octets = hex("0003010003 0006010003");
     let mut output = Vec::new();
     let result = programs::bridge::run(octets.as_slice().chain(Broken), &mut output);

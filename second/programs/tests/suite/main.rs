@@ -1,8 +1,9 @@
-//! All tests of the programs `bridge` and `rig` and of what starts them, of the documents and their examples, and of the files, in one program.
+//! All tests of the programs `bridge`, `rig` and `desk` and of what starts them, of the documents and their examples, and of the files, in one program.
 
 mod bridge;
 mod check;
 mod clauses;
+mod desk;
 mod documents;
 mod files;
 mod process;
