@@ -1,4 +1,4 @@
-//! Writes a seeded stream of frames or instructions to standard output.
+//! Writes a seeded stream of frames, instructions or lines to standard output.
 
 use std::io::{self, BufWriter, Write};
 use std::process::ExitCode;
@@ -9,8 +9,9 @@ use tools::traffic::{self, Kind};
 
 fn usage() -> String {
     format!(
-        "usage: traffic KIND SEED COUNT; KIND is {} (the last three for rig, all others for bridge), SEED \
-the number that the stream follows from, COUNT how many frames or instructions it has",
+        "usage: traffic KIND SEED COUNT; KIND is {} (the last two for desk, the three before them for rig, \
+all others for bridge), SEED the number that the stream follows from, COUNT how many frames, \
+instructions or lines it has",
         traffic::words()
     )
 }

@@ -12,20 +12,23 @@ use crate::traffic::{self, Kind};
 use run::{Limits, Run};
 
 /// How the program is called.
-pub const USAGE: &str = "usage: compare [--wait SECONDS] [frames|script] A B SEEDS [COUNT]; A and B \
-are paths of programs, SEEDS is how many seeds (from 1 on) or a range like 5-9, COUNT how many frames \
-or instructions a stream has (200 if left out), SECONDS how long a program may print nothing before it is \
-killed (10 if left out); streams are scripts unless the first word is frames; it stops after 20 \
-differences";
+pub const USAGE: &str = "usage: compare [--wait SECONDS] [frames|script|captures] A B SEEDS [COUNT]; \
+A and B are paths of programs, SEEDS is how many seeds (from 1 on) or a range like 5-9, COUNT how many \
+frames, instructions or lines a stream has (200 if left out), SECONDS how long a program may print \
+nothing before it is killed (10 if left out); streams are scripts unless the first word is frames or \
+captures; it stops after 20 differences";
 
-/// Frames or instructions of a stream where no count is given.
+/// Frames, instructions or lines of a stream where no count is given.
 const COUNT: u64 = 200;
 /// Seconds without a line after which a program is killed, where none are given.
 const WAIT: u64 = 10;
 /// Differences after which no more are looked for: a program that is wrong is wrong in many lines.
 const MOST: u64 = 20;
-/// Octets of a line and more: the longest line shows a room of 8,192 octets.
+/// Octets that are printed for a frame or an instruction, and more: the longest line shows a room of
+/// 8,192 octets.
 const LINE: u64 = 20_000;
+/// Octets that are printed for a captured message, and more: the longest has 2,046 names.
+const CAPTURE: u64 = 100_000;
 /// Characters shown of a line, and how many of them before the first that differs.
 const SHOWN: usize = 72;
 const SHOWN_BEFORE: usize = 16;
@@ -39,7 +42,7 @@ pub struct Plan {
     pub programs: [String; 2],
     /// Seeds of the streams.
     pub seeds: RangeInclusive<u64>,
-    /// Frames or instructions of each stream.
+    /// Frames, instructions or lines of each stream.
     pub count: u64,
     /// Seconds in which a program may print nothing.
     pub wait: u64,
@@ -55,6 +58,7 @@ impl Plan {
         let (kind, rest) = match rest {
             [word, rest @ ..] if word == "frames" => (Kind::Frames, rest),
             [word, rest @ ..] if word == "script" => (Kind::Script, rest),
+            [word, rest @ ..] if word == "captures" => (Kind::Captures, rest),
             rest => (Kind::Script, rest),
         };
         let (a, b, seeds, count) = match rest {
@@ -75,16 +79,22 @@ impl Plan {
         })
     }
 
-    /// Both programs on the stream of a seed.
-    fn runs(&self, seed: u64) -> io::Result<[Run; 2]> {
+    /// Both programs on the stream of a seed, and how many lines they have to print for it.
+    fn runs(&self, seed: u64) -> io::Result<([Run; 2], u64)> {
         let stream = Arc::new(traffic::stream(self.kind, seed, self.count));
-        let octets = self.count.saturating_add(1).saturating_mul(LINE);
+        let least = traffic::least_lines(self.kind, &stream, self.count);
+        let each = match self.kind {
+            Kind::Captures => CAPTURE,
+            _ => LINE,
+        };
+        let octets = self.count.saturating_add(1).saturating_mul(each);
         let limits = Limits {
             wait: self.wait,
             octets: octets.try_into().unwrap_or(usize::MAX),
         };
         let [a, b] = &self.programs;
-        Ok([Run::of(a, &stream, limits)?, Run::of(b, &stream, limits)?])
+        let runs = [Run::of(a, &stream, limits)?, Run::of(b, &stream, limits)?];
+        Ok((runs, least))
     }
 }
 
@@ -134,8 +144,8 @@ impl fmt::Display for Findings {
 pub fn run<W: Write>(plan: &Plan, output: &mut W) -> io::Result<Findings> {
     let mut findings = Findings::default();
     for seed in plan.seeds.clone() {
-        let runs = plan.runs(seed)?;
-        let mut differences = differences(&runs, plan.count).into_iter();
+        let (runs, least) = plan.runs(seed)?;
+        let mut differences = differences(&runs, least).into_iter();
         let left = MOST - findings.differences;
         for (line, what) in differences.by_ref().take(left as usize) {
             writeln!(output, "seed {seed} line {line}: {what}")?;

@@ -1,6 +1,7 @@
 //! The program `measure`: what it is asked for, and the one table that it prints.
 
 pub mod assembly;
+pub mod desk;
 mod fault;
 pub mod gate;
 pub mod library;
@@ -22,11 +23,12 @@ use time::SEED;
 
 /// How the program is called.
 pub const USAGE: &str =
-    "usage: measure [--worst] [--stack CALL LIBRARY] [--gate LOG] BRIDGE SECOND [COUNT]; \
-BRIDGE is the path of the bridge that is measured, SECOND of the one that it is measured against, \
-COUNT how many of the shortest messages a stream has (1000000 if left out), LIBRARY a static \
-library for x86-64 that has the message call under the name CALL, LOG what a gate printed; --worst \
-also searches for the worst message; the status is 1 if a figure is over its limit";
+    "usage: measure [--worst] [--desk DESK SECOND] [--stack CALL LIBRARY] [--gate LOG] BRIDGE SECOND \
+[COUNT]; BRIDGE is the path of the bridge that is measured, SECOND of the one that it is measured \
+against, DESK and its SECOND likewise of desks, COUNT how many of the shortest messages a stream has \
+(1000000 if left out), LIBRARY a static library for x86-64 that has the message call under the name \
+CALL, LOG what a gate printed; --worst also searches for the worst message; the status is 1 if a \
+figure is over its limit";
 
 /// Messages of a stream where no count is given.
 const COUNT: u64 = 1_000_000;
@@ -44,6 +46,8 @@ pub struct Plan {
     pub count: u64,
     /// Whether the worst message is searched for.
     pub worst: bool,
+    /// Paths of the desk and of the second one.
+    pub desks: Option<[String; 2]>,
     /// The call whose stack is to be read, in a library whose code is to be counted.
     pub stack: Option<Exported>,
     /// Path of what a gate printed.
@@ -62,12 +66,16 @@ pub struct Exported {
 impl Plan {
     /// Reads the arguments.
     pub fn parse(arguments: &[String]) -> Result<Plan, String> {
-        let (mut worst, mut stack, mut gate) = (false, None, None);
+        let (mut worst, mut desks, mut stack, mut gate) = (false, None, None, None);
         let mut rest = arguments;
         loop {
             match rest {
                 [word, behind @ ..] if word == "--worst" && !worst => {
                     worst = true;
+                    rest = behind;
+                }
+                [word, desk, second, behind @ ..] if word == "--desk" && desks.is_none() => {
+                    desks = Some([desk, second].map(|path| path_of(path)));
                     rest = behind;
                 }
                 [word, call, library, behind @ ..] if word == "--stack" && stack.is_none() => {
@@ -89,6 +97,7 @@ impl Plan {
             programs,
             count,
             worst,
+            desks,
             stack,
             gate,
         })
@@ -125,6 +134,9 @@ pub fn run<W: Write>(plan: &Plan, output: &mut W) -> io::Result<usize> {
     let gate = plan.gate.as_deref().map(gate_row).transpose()?;
     let mut rows = vec![Row::plain("processor", Figure::None, processor::own())];
     rows.extend(time_rows(plan)?);
+    if let Some(desks) = &plan.desks {
+        rows.extend(desk::rows(desks, plan.count)?);
+    }
     rows.extend(library.into_iter().flatten());
     rows.extend(gate);
     let table = Table(rows);
@@ -136,7 +148,7 @@ pub fn run<W: Write>(plan: &Plan, output: &mut W) -> io::Result<usize> {
 /// The bridge's times to those of the second one, or why they cannot be compared here.
 fn time_rows(plan: &Plan) -> io::Result<Vec<Row>> {
     let what = |stream: &Stream| format!("time to the second's: {}", stream.what);
-    if let Some(why) = processor::obstacle(&plan.programs)? {
+    if let Some(why) = processor::obstacle("bridge", &plan.programs)? {
         let streams = STREAMS.iter().map(|stream| (what(stream), stream.limit));
         let goals = worst::GOALS.iter().filter(|_| plan.worst);
         let all = streams.chain(goals.map(|goal| (goal.to_string(), Limit::Any)));

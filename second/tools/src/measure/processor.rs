@@ -43,11 +43,11 @@ pub fn described(architecture: &str, information: &str) -> String {
     words.join(", ")
 }
 
-/// What keeps the times of a bridge and the second one from being compared on this machine. One for
+/// What keeps the times of a program and the second one from being compared on this machine. One for
 /// another processor is run by an emulator, if at all, and what is not compiled may start one.
-pub fn obstacle(programs: &[String; 2]) -> io::Result<Option<String>> {
+pub fn obstacle(name: &str, programs: &[String; 2]) -> io::Result<Option<String>> {
     let own = of(&env::current_exe()?)?;
-    for (name, program) in ["bridge", "second"].iter().zip(programs) {
+    for (name, program) in [name, "second"].iter().zip(programs) {
         let found = of(program.as_ref())?;
         if found.is_none() {
             return Ok(Some(format!("the {name} is not a compiled program")));

@@ -67,7 +67,7 @@ pub struct Row {
     pub what: String,
     /// The figure.
     pub figure: Figure,
-    /// Microseconds that the bridge and the second one take for a message, if messages were timed.
+    /// Microseconds that the program and the second one take for a message, if messages were timed.
     pub each: Option<[f64; 2]>,
     /// What it was had from, or why it is missing.
     pub from: String,

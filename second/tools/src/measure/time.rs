@@ -1,4 +1,4 @@
-//! The time that two bridges take for a large stream, run by turns.
+//! The time that two programs take for a large stream, run by turns.
 
 use std::fs::{self, File};
 use std::io::{self, BufWriter, Seek};
@@ -13,7 +13,7 @@ pub const SEED: u64 = 1;
 /// Runs of each program on a stream; odd, so that one of them is the median.
 pub const RUNS: usize = 5;
 
-/// The times of a bridge and of the second one for a stream.
+/// The times of a program and of the second one for a stream.
 #[derive(Debug, PartialEq)]
 pub struct Times {
     /// The median of each.
@@ -23,7 +23,7 @@ pub struct Times {
 }
 
 impl Times {
-    /// From the times of the bridge and of the second one, each in the order of the turns.
+    /// From the times of the program and of the second one, each in the order of the turns.
     pub fn of(times: [[Duration; RUNS]; 2]) -> Times {
         let [bridge, second] = times;
         let mut turns: [f64; RUNS] = array::from_fn(|turn| ratio(bridge[turn], second[turn]));

@@ -1,6 +1,8 @@
-//! Seeded traffic: streams of frames for `bridge` and scripts for `rig`, the same on every machine.
+//! Seeded traffic: streams of frames for `bridge`, scripts for `rig` and lines for `desk`, the same on
+//! every machine.
 
 pub mod acts;
+mod captures;
 mod commands;
 pub mod dice;
 mod edges;
@@ -32,6 +34,10 @@ pub enum Kind {
     Calls,
     /// The records for `rig` that lie at the edges, to be stored: they are the same for each seed.
     Edges,
+    /// Lines for `desk`, of every form and often faulty.
+    Captures,
+    /// The lines for `desk` that lie at the edges, to be stored: they are the same for each seed.
+    CaptureEdges,
 }
 
 impl FromStr for Kind {
@@ -43,6 +49,8 @@ impl FromStr for Kind {
             "script" => Ok(Kind::Script),
             "calls" => Ok(Kind::Calls),
             "edges" => Ok(Kind::Edges),
+            "captures" => Ok(Kind::Captures),
+            "capture-edges" => Ok(Kind::CaptureEdges),
             _ => Stream::named(word)
                 .map(Kind::Measured)
                 .ok_or_else(|| format!("KIND is {}, not {word:?}", words())),
@@ -54,7 +62,10 @@ impl FromStr for Kind {
 pub fn words() -> String {
     let measured = STREAMS.iter().map(|stream| stream.word);
     let words: Vec<&str> = ["frames"].into_iter().chain(measured).collect();
-    format!("{}, script, calls or edges", words.join(", "))
+    format!(
+        "{}, script, calls, edges, captures or capture-edges",
+        words.join(", ")
+    )
 }
 
 /// Writes the stream of `count` pieces that belongs to `seed`.
@@ -66,6 +77,17 @@ pub fn write<W: Write>(kind: Kind, seed: u64, count: u64, sink: &mut W) -> io::R
         Kind::Script => script::write(&mut dice, script::OFTEN, count, sink),
         Kind::Calls => script::write(&mut dice, script::SELDOM, count, sink),
         Kind::Edges => edges::write(count, sink),
+        Kind::Captures => captures::write(&mut dice, count, sink),
+        Kind::CaptureEdges => captures::edges::write(count, sink),
+    }
+}
+
+/// How many lines a program prints at least for a stream of `count` pieces: one for each frame or
+/// record, and one for each line that holds something.
+pub fn least_lines(kind: Kind, stream: &[u8], count: u64) -> u64 {
+    match kind {
+        Kind::Captures | Kind::CaptureEdges => captures::held(stream),
+        _ => count,
     }
 }
 

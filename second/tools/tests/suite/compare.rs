@@ -1,10 +1,11 @@
 //! The programs `traffic` and `compare`, as child processes.
 
+use std::process::Command;
 use std::thread;
 use std::time::Instant;
 
 use crate::process::{assert_quiet_without_reader, assert_refused, run, text};
-use crate::process::{BRIDGE, COMPARE, RIG, TRAFFIC};
+use crate::process::{BRIDGE, COMPARE, DESK, RIG, TRAFFIC};
 
 /// A program that stands in for a bridge or a rig.
 fn stand_in(name: &str) -> String {
@@ -34,6 +35,47 @@ fn a_program_agrees_with_itself() {
         (status, lines),
         (Some(0), vec!["3 streams, 1200 lines, 0 differences".into()])
     );
+}
+
+#[test]
+fn a_desk_agrees_with_itself() {
+    let (status, lines) = compare(&["captures", *DESK, *DESK, "4", "100"]);
+    assert_eq!((status, lines.len()), (Some(0), 1), "{lines:?}");
+    let count = lines[0].strip_prefix("4 streams, ").unwrap();
+    let count = count.strip_suffix(" lines, 0 differences").unwrap();
+    // A line that is read prints a line for each record as well.
+    assert!(count.parse::<u64>().unwrap() > 1_000, "{count} lines");
+    let (status, lines) = compare(&["captures", *DESK, *DESK, "9-9"]);
+    assert_eq!((status, lines.len()), (Some(0), 1), "{lines:?}");
+    // The longest messages have more than the lines of other programs may.
+    let (status, lines) = compare(&["captures", *DESK, *DESK, "1-400", "1"]);
+    assert_eq!((status, lines.len()), (Some(0), 1), "{lines:?}");
+}
+
+#[test]
+fn a_wrong_desk_is_found() {
+    // One that takes a cause for another.
+    let words = ["captures", *DESK, &stand_in("wrong_desk"), "1-3", "100"];
+    let mut command = Command::new(COMPARE);
+    let output = command.args(words).env("DESK", *DESK).output().unwrap();
+    assert_eq!(output.status.code(), Some(1));
+    let first = text(&output.stdout).lines().next().unwrap();
+    assert!(first.starts_with("seed 1 line "), "{first}");
+    assert!(
+        first.contains("02 invalid-value") && first.contains("6f protocol-error"),
+        "{first}"
+    );
+    // One that prints nothing at all, or the lines of another program.
+    let (status, lines) = compare(&["captures", "true", "true", "2-2", "100"]);
+    assert_eq!(status, Some(1));
+    assert_eq!(
+        lines[0],
+        "seed 2 line 1: A has no more lines: end of its output"
+    );
+    assert_eq!(lines.last().unwrap(), "1 streams, 0 lines, 2 differences");
+    let (status, lines) = compare(&["captures", *DESK, *BRIDGE, "2-2", "100"]);
+    assert_eq!(status, Some(1));
+    assert!(lines[0].starts_with("seed 2 line 1: "), "{lines:?}");
 }
 
 #[test]
@@ -125,7 +167,9 @@ fn a_program_that_prints_without_end_is_killed_and_told() {
 
 #[test]
 fn wrong_use_of_compare() {
-    let cases: [&[&str]; 15] = [
+    let cases: [&[&str]; 17] = [
+        &["captures", *RIG, *RIG],
+        &["capture-edges", *RIG, *RIG, "1", "2"],
         &["--wait", *RIG, *RIG, "1"],
         &["--wait", "0", *RIG, *RIG, "1"],
         &["--wait", "1", "--wait", "1", *RIG, *RIG, "1"],
@@ -201,6 +245,8 @@ fn traffic_writes_what_comparisons_use() {
         ("script", tools::traffic::Kind::Script),
         ("calls", tools::traffic::Kind::Calls),
         ("edges", tools::traffic::Kind::Edges),
+        ("captures", tools::traffic::Kind::Captures),
+        ("capture-edges", tools::traffic::Kind::CaptureEdges),
     ] {
         let output = run(TRAFFIC, &[word, "18446744073709551615", "300"], &[]);
         assert!(output.status.success());

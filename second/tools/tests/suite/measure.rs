@@ -7,11 +7,11 @@ use std::{env, fs};
 
 use tools::measure::time::Times;
 use tools::measure::worst::GOALS;
-use tools::measure::{processor, Exported, Plan};
-use tools::traffic::measured::STREAMS;
+use tools::measure::{desk, processor, Exported, Plan};
+use tools::traffic::measured::{Stream, STREAMS};
 
 use crate::process::{assert_quiet_without_reader, assert_refused, run, text};
-use crate::process::{BRIDGE, MEASURE, RIG};
+use crate::process::{BRIDGE, DESK, MEASURE, RIG};
 use crate::{gate, stack};
 
 /// A folder with what stands in for other programs.
@@ -117,6 +117,35 @@ time of the gate to ten minutes; 0.15; 1.00; ; 90 seconds; of 70 seconds of work
 }
 
 #[test]
+fn desks_are_timed_on_what_a_bridge_prints() {
+    let words = ["--desk", *DESK, *DESK, *BRIDGE, *BRIDGE, "300"];
+    let output = run(MEASURE, &words, &[]);
+    let rows = rows(&output);
+    assert_eq!(rows.len(), STREAMS.len() + desk::WORDS.len());
+    for (row, word) in rows[STREAMS.len()..].iter().zip(desk::WORDS) {
+        let stream = Stream::named(word).unwrap();
+        let what = format!("time of desk to the second's: answers to {}", stream.what);
+        assert_eq!((row[0], row[2]), (&*what, "2.00"));
+        assert_timed(*row, stream.before() + (300 / stream.one_in).max(1));
+        let (mut lines, mut frames) = (Vec::new(), Vec::new());
+        desk::write(stream, 20, &mut lines).unwrap();
+        stream.write(1, 20, &mut frames).unwrap();
+        assert!(lines == run(*BRIDGE, &[], &frames).stdout, "{word}");
+    }
+    // What is not compiled is not timed.
+    let script = format!("{TOOLS}/silent");
+    let output = run(
+        MEASURE,
+        &["--desk", &script, *DESK, *BRIDGE, *BRIDGE, "1"],
+        &[],
+    );
+    let why = "not measured: the desk is not a compiled program";
+    for row in &self::rows(&output)[STREAMS.len()..] {
+        assert_eq!(row[1..], ["-", "2.00", "", why]);
+    }
+}
+
+#[test]
 fn what_is_not_asked_for_or_not_told_is_left_out() {
     let output = run(MEASURE, &[*BRIDGE, *BRIDGE, "10"], &[]);
     assert_eq!(rows(&output).len(), STREAMS.len());
@@ -152,6 +181,7 @@ fn arguments_of_measure() {
         programs: paths("./a", "/b/c"),
         count: 1_000_000,
         worst: false,
+        desks: None,
         stack: None,
         gate: None,
     };
@@ -160,6 +190,7 @@ fn arguments_of_measure() {
         programs: paths("../a", "./-b/c"),
         count: 7,
         worst: true,
+        desks: Some(paths("./d", "/e")),
         stack: Some(Exported {
             call: "message".into(),
             library: "./-x.a".into(),
@@ -167,18 +198,21 @@ fn arguments_of_measure() {
         gate: Some("log".into()),
     };
     assert_eq!(
-        plan("--worst --stack message -x.a --gate log ../a -b/c 7"),
+        plan("--worst --desk d /e --stack message -x.a --gate log ../a -b/c 7"),
         Ok(full())
     );
     assert_eq!(
-        plan("--gate log --stack message -x.a --worst ../a -b/c 7"),
+        plan("--gate log --stack message -x.a --worst --desk d /e ../a -b/c 7"),
         Ok(full())
     );
 }
 
 #[test]
 fn wrong_use_of_measure() {
-    let cases: [&[&str]; 16] = [
+    let cases: [&[&str]; 19] = [
+        &["--desk", *DESK, *DESK],
+        &["--desk", *DESK, *DESK, *BRIDGE],
+        &["--desk", "a", "b", "--desk", "a", "b", *BRIDGE, *BRIDGE],
         &[],
         &[*BRIDGE],
         &[*BRIDGE, *BRIDGE, "few"],

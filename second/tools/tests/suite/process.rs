@@ -10,6 +10,7 @@ pub const COMPARE: &str = env!("CARGO_BIN_EXE_compare");
 pub const MEASURE: &str = env!("CARGO_BIN_EXE_measure");
 pub static BRIDGE: LazyLock<&str> = LazyLock::new(|| beside("bridge"));
 pub static RIG: LazyLock<&str> = LazyLock::new(|| beside("rig"));
+pub static DESK: LazyLock<&str> = LazyLock::new(|| beside("desk"));
 
 /// A program of the other package. Where the tests of the whole workspace are built, it is built
 /// into the folder of the tools.

@@ -344,6 +344,7 @@ fn streams_follow_from_their_seed_alone() {
         (measured("empty"), 0xD944_AA8A_A327_8099),
         (Kind::Script, 0x5C7C_E4AA_7143_8DF6),
         (Kind::Calls, 0xB19E_8A59_EAD6_3FC2),
+        (Kind::Captures, 0x4B73_68C8_3028_1715),
     ] {
         let [first, second] = [1, 2].map(|seed| stream(kind, seed, 1_000));
         assert_ne!(first, second, "{kind:?}");
