@@ -166,7 +166,10 @@ pub fn forms(shown: &Shown, found: &mut Vec<&'static str>) {
             !is && (line.starts_with(b"-") || line.starts_with(b"+")),
         ),
         ("0 -", line == b"0 -"),
-        ("a number with a zero", line == b"05 -"),
+        (
+            "a number with a zero",
+            line.len() == 4 && line[0] == b'0' && line.ends_with(b" -"),
+        ),
         ("three digits and a dash", line == b"100 -"),
         ("no blank before the dash", line == b"7-"),
         ("a word", line == b"cut"),

@@ -8,6 +8,7 @@ mod measure;
 mod process;
 mod stack;
 mod stored;
+mod stored_desk;
 mod stored_script;
 mod streams;
 mod traffic;
