@@ -1,7 +1,8 @@
-//! What starts the proved programs: `bridge` and `rig` over `scripts/`, once they are built.
+//! What starts the proved programs: `bridge`, `rig` and `desk` over `scripts/`, once they are built.
 
 use std::fs;
 use std::io::{BufRead, BufReader, Write};
+use std::os::unix::net::UnixListener;
 use std::os::unix::process::ExitStatusExt;
 use std::time::{Duration, Instant};
 
@@ -272,4 +273,97 @@ fn a_bad_file_or_argument_is_answered_before_anything_is_built() {
         place.assert_shell("./bridge closed.hex", 2, "", why);
     }
     assert!(!place.kit("asked").exists() && !place.root().join("target").exists());
+}
+
+/// What is captured, not all of it a message or text, and what `desk` prints for it.
+const CAPTURED: (&[u8], &str) = (
+    b"# captured\n0 0271000701000300010000\n5 -\n02 7\n02 \x00\xFF\n\n03 0002 00 00",
+    "complete\n  value 0003 GateEnabled 00\n5 -\nnot a message\nnot a message\nnotify\n",
+);
+
+#[test]
+fn the_desk_takes_a_file_as_it_is() {
+    let place = Place::built();
+    let (captured, printed) = CAPTURED;
+    fs::write(place.root().join("a file"), captured).unwrap();
+    place.shell("mkdir ../elsewhere && ln -s '../the root/desk' ../elsewhere/one");
+    for script in [
+        "./desk 'a file'",
+        "sh desk 'a file'",
+        "./desk <'a file'",
+        "cat 'a file' | ./desk",
+        "cat 'a file' | ./desk /dev/stdin",
+        "./desk <(cat 'a file')",
+        "cd ../elsewhere && ./one '../the root/a file'",
+        "cd / && sh \"$OLDPWD/desk\" \"$OLDPWD/a file\"",
+        "cd crates && CDPATH=/ POSIXLY_CORRECT=1 ../desk '../a file'",
+        "./desk 'a file' <&- 2>&-",
+    ] {
+        place.assert_shell(script, 0, printed, "");
+    }
+    // What the bridge prints can be handed to it.
+    let answers = "5 -\ncomplete\n  value 0003 GateEnabled 00\n2 -\n";
+    let piped = "./bridge samples/three-frames.hex | ./desk";
+    place.assert_shell(piped, 0, answers, "");
+    let told = "desk: Is a directory (os error 21)\n";
+    place.assert_shell("./desk <.", 1, "", told);
+    place.assert_shell("./desk <&-", 1, "", "desk: standard input cannot be read\n");
+}
+
+#[test]
+fn a_bad_file_for_the_desk_is_answered_before_anything_is_built() {
+    let place = Place::fresh();
+    let taken = "a file of text or standard input, each as it is";
+    for (arguments, why) in [
+        ("'no file'", "there is no file 'no file'".to_string()),
+        ("''", "there is no file ''".to_string()),
+        ("check/x", "there is no file 'check/x'".to_string()),
+        (
+            "samples",
+            "'samples' is a folder; a file of text is wanted".to_string(),
+        ),
+        (
+            "a b",
+            format!("takes one{}; 2 arguments are given", &taken[1..]),
+        ),
+        (
+            "--help",
+            format!("takes no option '--help'; usage: ./desk [FILE], {taken}"),
+        ),
+        (
+            "-",
+            format!("takes no option '-'; usage: ./desk [FILE], {taken}"),
+        ),
+    ] {
+        for mode in ["", "POSIXLY_CORRECT=1 "] {
+            let script = format!("{mode}./desk {arguments}");
+            place.assert_shell(&script, 2, "", &format!("desk: {why}\n"));
+        }
+    }
+    // Files that even root cannot open: sockets.
+    let socket = UnixListener::bind(place.root().join("closed socket")).unwrap();
+    for (mode, name) in [("", "desk"), ("POSIXLY_CORRECT=1 ", "desk"), ("", "bridge")] {
+        let why = format!("{name}: the file 'closed socket' cannot be read\n");
+        place.assert_shell(&format!("{mode}./{name} 'closed socket'"), 2, "", &why);
+    }
+    drop(socket);
+    assert!(!place.kit("asked").exists() && !place.root().join("target").exists());
+}
+
+#[test]
+fn a_peer_of_the_desk_gets_each_answer() {
+    let place = Place::built();
+    let mut child = place.start("./desk");
+    let mut stdout = child.stdout.take().unwrap();
+    let stdin = child.stdin.as_mut().unwrap();
+    for (written, answer) in [
+        ("02\n", "complete\n"),
+        ("0 04\n7", "13 -\n"),
+        (" -\n", "7 -\n"),
+    ] {
+        stdin.write_all(written.as_bytes()).unwrap();
+        assert_eq!(line(&mut stdout), answer);
+    }
+    let (status, _, err) = place.ended(child.wait_with_output().unwrap());
+    assert_eq!((status, err.as_str()), (0, ""));
 }

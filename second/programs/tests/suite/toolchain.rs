@@ -14,7 +14,7 @@ use std::{env, process};
 
 use kit::files::ROOT;
 
-use crate::process::{text, BRIDGE, RIG};
+use crate::process::{text, BRIDGE, DESK, RIG};
 
 const STAND_IN: &str = concat!(env!("CARGO_MANIFEST_DIR"), "/tests/tools/rt");
 const COMPARE: &str = concat!(env!("CARGO_MANIFEST_DIR"), "/tests/tools/compare");
@@ -23,7 +23,7 @@ const TOOLS: &str =
     "bash sh cat chmod cmp cp cut dirname env find flock grep head ln mkdir mktemp \
                      mv printf ps readlink realpath rm sed setsid sleep sort tail touch tr";
 const CRATES: &str = "# NAME: crates below it\nlow: bytes\nmid: low\nbridge: mid low io\n\
-                      rig: mid io\napart: low\n";
+                      rig: mid io\ndesk: mid io\napart: low\n";
 /// What the sample of three frames is answered with.
 pub const ANSWERS: &str = "5 -\n0 0271000701000300010000\n2 -\n";
 const FIRST: &str = "bridge: proves and builds first what is not yet, some minutes if that is all \
@@ -57,6 +57,7 @@ impl Place {
         for folder in ["programs", "second"] {
             symlink(BRIDGE, kit.join(folder).join("bridge")).unwrap();
             symlink(RIG, kit.join(folder).join("rig")).unwrap();
+            symlink(DESK, kit.join(folder).join("desk")).unwrap();
         }
         symlink(COMPARE, kit.join("second/compare")).unwrap();
         // Built with the tests of the whole workspace.
@@ -93,7 +94,7 @@ impl Place {
 
     /// The starters and a few crates, of which nothing is built yet.
     pub fn fresh() -> Place {
-        let parts = "bridge rig check measure scripts samples toolchain.txt".split(' ');
+        let parts = "bridge rig desk check measure scripts samples toolchain.txt".split(' ');
         let place = Place::with(&parts.map(|p| Path::new(ROOT).join(p)).collect::<Vec<_>>());
         fs::write(place.root().join("crates.txt"), CRATES).unwrap();
         for file in [
@@ -101,6 +102,7 @@ impl Place {
             "mid/src/lib",
             "bridge/src/main",
             "rig/src/main",
+            "desk/src/main",
             "apart/src/lib",
         ] {
             let file = place.root().join("crates").join(file).with_extension("rt");
@@ -110,10 +112,11 @@ impl Place {
         place
     }
 
-    /// The same with both programs built.
+    /// The same with all programs built.
     pub fn built() -> Place {
         let place = Place::fresh();
-        let (status, ..) = place.shell("./bridge </dev/null && ./rig </dev/null");
+        let (status, ..) =
+            place.shell("./bridge </dev/null && ./rig </dev/null && ./desk </dev/null");
         assert_eq!(status, 0);
         place
     }
