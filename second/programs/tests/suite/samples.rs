@@ -1,4 +1,5 @@
-//! The samples: each `samples/NAME.hex`, turned to octets, gives the lines of `samples/NAME.out`.
+//! The samples: each `samples/NAME.hex`, turned to octets, gives the lines of `samples/NAME.out`, and so
+//! does each `samples/NAME.txt` as it is.
 
 use std::fs;
 use std::path::{Path, PathBuf};
@@ -6,7 +7,7 @@ use std::path::{Path, PathBuf};
 use kit::files::{frames, sample, ROOT};
 use kit::hex;
 
-use crate::process::{lines, BRIDGE, RIG};
+use crate::process::{lines, BRIDGE, DESK, RIG};
 
 /// Paths of the samples that have a file with the given ending, without it.
 fn samples(ending: &str) -> Vec<PathBuf> {
@@ -31,30 +32,47 @@ fn promised(sample: &str) -> Vec<&str> {
 }
 
 /// The program that a sample is for, by the command in its comments.
-fn program(sample: &Path, source: &str) -> &'static str {
+fn program(sample: &Path, ending: &str) -> &'static str {
     let name = sample.file_name().unwrap().to_str().unwrap();
-    let told =
-        |program: &str| source.contains(&format!("# Run it:  ./{program} samples/{name}.hex\n"));
-    match (told("bridge"), told("rig")) {
-        (true, false) => BRIDGE,
-        (false, true) => RIG,
+    let source = text(sample, ending);
+    let told = |program: &str| {
+        source.contains(&format!("# Run it:  ./{program} samples/{name}.{ending}\n"))
+    };
+    match (told("bridge"), told("rig"), told("desk"), ending) {
+        (true, false, false, "hex") => BRIDGE,
+        (false, true, false, "hex") => RIG,
+        (false, false, true, "txt") => DESK,
         _ => panic!("{sample:?} tells no program"),
     }
 }
 
 #[test]
 fn samples_give_their_lines() {
-    let samples = samples("hex");
-    assert!(samples.len() >= 3, "{samples:?}");
-    assert_eq!(samples, self::samples("out"));
-    for sample in samples {
-        let source = text(&sample, "hex");
-        let printed = lines(program(&sample, &source), &frames(&source));
-        let stored = text(&sample, "out");
-        assert!(stored.ends_with('\n'), "{sample:?}");
-        assert_eq!(printed, stored.lines().collect::<Vec<_>>(), "{sample:?}");
-        assert_eq!(printed, promised(&source), "{sample:?}");
+    let mut all = Vec::new();
+    for (ending, least) in [("hex", 3), ("txt", 1)] {
+        let samples = samples(ending);
+        assert!(samples.len() >= least, "{samples:?}");
+        for sample in &samples {
+            assert_lines(sample, ending);
+        }
+        all.extend(samples);
     }
+    all.sort();
+    assert_eq!(all, samples("out"));
+}
+
+/// Asserts that a sample gives the lines that are stored beside it, and that its comments promise.
+fn assert_lines(sample: &Path, ending: &str) {
+    let source = text(sample, ending);
+    let input = match ending {
+        "hex" => frames(&source),
+        _ => source.clone().into_bytes(),
+    };
+    let printed = lines(program(sample, ending), &input);
+    let stored = text(sample, "out");
+    assert!(stored.ends_with('\n'), "{sample:?}");
+    assert_eq!(printed, stored.lines().collect::<Vec<_>>(), "{sample:?}");
+    assert_eq!(printed, promised(&source), "{sample:?}");
 }
 
 #[test]

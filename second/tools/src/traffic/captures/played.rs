@@ -3,8 +3,9 @@
 use port::table::{SetBy, TABLE};
 use port::{build_notification, take_local_value, take_message, FRESH};
 
+use crate::traffic::commands;
 use crate::traffic::dice::Dice;
-use crate::traffic::{commands, values};
+use crate::traffic::values;
 
 /// Octets of the room for a reply.
 const ROOM: usize = 4_096;

@@ -129,6 +129,6 @@ fn longest() -> Vec<Vec<u8>> {
         // Neither its type nor what is cut short is told of it.
         vec![0x04; longest + 1],
         vec![0x04; longest],
-        vec![0x02; longest + 2],
+        filled(complete(&[vec![0x73, 0xFF, 0xFF]]), longest + 2),
     ]
 }
