@@ -1,348 +1,72 @@
 //! What `traffic captures` is made of: every form of a line, and every shape of a message.
 
 use std::collections::BTreeMap;
+use std::sync::LazyLock;
 
 use tools::traffic::{least_lines, stream, Kind};
 
-use crate::process::text;
+use crate::shapes::{assert_often, names, prints, shown, FORMS, PRINTED, SHAPES};
 
 const STREAMS: u64 = 150;
 const LINES: u64 = 200;
+/// The kinds of record that stand behind a count.
+const COUNTED: [&str; 4] = ["value", "read-error", "update", "update-error"];
 
-/// A line, the octets in it if it holds some, and what `desk` prints for it.
-pub struct Shown {
-    pub line: Vec<u8>,
-    pub octets: Option<Vec<u8>>,
-    pub printed: Vec<String>,
+/// How often some streams have each thing.
+#[derive(Default)]
+struct Seen {
+    named: BTreeMap<&'static str, usize>,
+    printed: BTreeMap<String, usize>,
+    records: BTreeMap<(&'static str, usize), usize>,
+    without_end: usize,
 }
 
-impl Shown {
-    pub fn of(line: &[u8]) -> Shown {
-        let mut output = Vec::new();
-        programs::desk::run(line, &mut output).unwrap();
-        Shown {
-            line: line.to_vec(),
-            octets: octets(line),
-            printed: text(&output).lines().map(String::from).collect(),
-        }
-    }
-
-    fn first(&self) -> &str {
-        self.printed.first().map_or("", String::as_str)
-    }
-
-    fn records(&self, kind: &str) -> usize {
-        let kind = format!("  {kind} ");
-        let of_kind = self.printed.iter().filter(|line| line.starts_with(&kind));
-        of_kind.count()
-    }
-
-    /// What stands before the comment.
-    fn content(&self) -> &[u8] {
-        self.line.split(|c| *c == b'#').next().unwrap()
-    }
-}
-
-/// The lines of a stream, each with what is printed for it alone.
-pub fn shown(stream: &[u8]) -> Vec<Shown> {
-    let stream = stream.strip_suffix(b"\n").unwrap_or(stream);
-    let lines = stream.split(|character| *character == b'\n');
-    lines.map(Shown::of).collect()
-}
-
-/// The octets of a line, read by words: each has whole pairs, and the first may be a single `0`.
-fn octets(line: &[u8]) -> Option<Vec<u8>> {
-    let content = line.split(|c| *c == b'#').next().unwrap();
-    let content = String::from_utf8(content.to_vec()).ok()?;
-    let mut words: Vec<&str> = content.split([' ', '\t', '\r']).collect();
-    words.retain(|word| !word.is_empty());
-    if words.first() == Some(&"0") {
-        words.remove(0);
-    }
-    let pairs = |word: &&str| word.len() % 2 == 0 && word.bytes().all(|c| c.is_ascii_hexdigit());
-    let whole = !words.is_empty() && words.iter().all(pairs);
-    whole.then(|| kit::hex(&words.concat()))
-}
-
-/// The elements of a COMPLETE with their contents, and whether the last one is cut short.
-pub fn elements(message: &[u8]) -> (Vec<(u8, &[u8])>, bool) {
-    let (mut elements, mut rest) = (Vec::new(), &message[1..]);
-    while let Some(identifier) = rest.first() {
-        let width = match identifier >> 4 {
-            8.. => 0,
-            7 => 2,
-            _ => 1,
-        };
-        let length = rest.get(1..1 + width).map(|told| {
-            let told = told.iter();
-            told.fold(0, |n, octet| n * 256 + usize::from(*octet))
-        });
-        let end = length.map(|length| 1 + width + length);
-        let Some(end) = end.filter(|end| *end <= rest.len()) else {
-            return (elements, true);
-        };
-        elements.push((*identifier, &rest[1 + width..end]));
-        rest = &rest[end..];
-    }
-    (elements, false)
-}
-
-fn is_known(identifier: u8) -> bool {
-    (0x70..=0x72).contains(&identifier)
-}
-
-/// The shapes of a message.
-pub fn shapes(message: &[u8], found: &mut Vec<&'static str>) {
-    let lengths = [(4_095, "4,095"), (4_096, "4,096"), (4_097, "4,097")];
-    found.extend(lengths.iter().filter(|l| l.0 == message.len()).map(|l| l.1));
-    if message.len() > 4_097 {
-        found.push("far too long");
-    }
-    if message[0] != 2 || message.len() > 4_096 {
-        return;
-    }
-    let (elements, cut) = elements(message);
-    let mut last = 0;
-    for (identifier, contents) in &elements {
-        found.push(match identifier >> 4 {
-            _ if is_known(*identifier) => "known",
-            8.. => "unknown of one octet",
-            7 => "unknown with two octets of length",
-            _ => "unknown with one octet of length",
-        });
-        if is_known(*identifier) {
-            let again = elements.iter().filter(|(i, _)| i == identifier).count() > 1;
-            found.extend(again.then_some("a known one again"));
-            found.extend((*identifier < last).then_some("a known one late"));
-            found.extend(contents.is_empty().then_some("no contents"));
-            last = last.max(*identifier);
-        }
-        match (identifier, contents) {
-            (0x70, names) if names.len() > 2_000 => found.push("many names"),
-            (0x70, names) if names.len() % 2 == 1 => found.push("half a name"),
-            (0x72, [0, 0, 0, 0]) => found.push("long updates of length 0"),
-            (0x71, [0, 0]) => found.push("no records"),
-            _ => {}
-        }
-    }
-    found.extend(cut.then_some("cut"));
-}
-
-/// The forms of a line.
-pub fn forms(shown: &Shown, found: &mut Vec<&'static str>) {
-    let (line, content) = (&shown.line[..], shown.content());
-    let has = |characters: &[u8]| content.iter().any(|c| characters.contains(c));
-    let digits = content.iter().filter(|c| c.is_ascii_hexdigit()).count();
-    let trimmed = content.trim_ascii();
-    let is = shown.octets.is_some();
-    for (form, holds) in [
-        ("empty", line.is_empty()),
-        ("blanks", !line.is_empty() && line.trim_ascii().is_empty()),
-        (
-            "comment alone",
-            trimmed.is_empty() && !line.trim_ascii().is_empty(),
-        ),
-        ("comment behind octets", is && content.len() < line.len()),
-        ("as bridge prints it", is && content.starts_with(b"0 ")),
-        ("octets alone", is && !trimmed.starts_with(b"0 ")),
-        ("upper case", is && has(b"ABCDEF") && !has(b"abcdef")),
-        ("both cases", is && has(b"ABCDEF") && has(b"abcdef")),
-        ("spaces", is && trimmed.contains(&b' ')),
-        ("tabs", is && has(b"\t")),
-        ("carriage returns", is && has(b"\r")),
-        (
-            "blanks in front",
-            is && content.len() > content.trim_ascii_start().len(),
-        ),
-        (
-            "odd digits",
-            !is && digits == content.len() && digits % 2 == 1,
-        ),
-        ("00 before octets", is && line.starts_with(b"00 ")),
-        ("0 0 before octets", !is && line.starts_with(b"0 0 ")),
-        ("a number before octets", !is && line.starts_with(b"7 0")),
-        (
-            "a sign",
-            !is && (line.starts_with(b"-") || line.starts_with(b"+")),
-        ),
-        ("0 -", line == b"0 -"),
-        (
-            "a number with a zero",
-            line.len() == 4 && line[0] == b'0' && line.ends_with(b" -"),
-        ),
-        ("three digits and a dash", line == b"100 -"),
-        ("no blank before the dash", line == b"7-"),
-        ("a word", line == b"cut"),
-        ("an octet 0", has(b"\0")),
-        ("octets over 127", content.iter().any(|c| *c > 127)),
-        ("junk in a comment", line.iter().any(|c| *c > 127) && is),
-        ("very long octets", is && line.len() > 9_999),
-        (
-            "very long blanks",
-            line.starts_with(b"12\t\t\t\t") && line.len() > 9_999,
-        ),
-        (
-            "very long, no message",
-            shown.first() == "not a message" && line.len() > 9_999,
-        ),
-    ] {
-        found.extend(holds.then_some(form));
-    }
-}
-
-/// What is printed: the first line of each, and the kinds and causes of records.
-pub fn prints(shown: &Shown) -> Vec<String> {
-    let first = shown.first().to_string();
-    let kinds = shown.printed.iter().skip(1).map(|line| {
-        let words: Vec<&str> = line.split_whitespace().collect();
-        match words[..] {
-            [kind @ ("read-error" | "update-error"), _, _, cause, word] => {
-                format!("{kind} {cause} {word}")
+static SEEN: LazyLock<Seen> = LazyLock::new(|| {
+    let mut seen = Seen::default();
+    for seed in 1..=STREAMS {
+        let stream = stream(Kind::Captures, seed, LINES);
+        seen.without_end += usize::from(!stream.ends_with(b"\n"));
+        for shown in shown(&stream) {
+            for name in names(&shown) {
+                *seen.named.entry(name).or_default() += 1;
             }
-            [kind, _, _, "-"] => format!("{kind} -"),
-            [kind, ..] => kind.to_string(),
-            [] => panic!("{line:?}"),
+            for name in prints(&shown) {
+                *seen.printed.entry(name).or_default() += 1;
+            }
+            for kind in COUNTED {
+                let records = (kind, shown.records(kind));
+                *seen.records.entry(records).or_default() += 1;
+            }
         }
-    });
-    let mut all: Vec<String> = kinds.chain([first]).collect();
-    all.sort();
-    all.dedup();
-    all
-}
-
-/// Asserts that each is counted so often.
-pub fn assert_often<K: AsRef<str> + Ord>(
-    counts: &BTreeMap<K, usize>,
-    wanted: &[&str],
-    least: usize,
-) {
-    for what in wanted {
-        let found = counts.iter().find(|(name, _)| name.as_ref() == *what);
-        let count = found.map_or(0, |(_, count)| *count);
-        assert!(count >= least, "{what}: {count} times");
     }
-}
-
-/// All forms and shapes that a stream is asked for.
-pub const FORMS: &[&str] = &[
-    "empty",
-    "blanks",
-    "comment alone",
-    "comment behind octets",
-    "as bridge prints it",
-    "octets alone",
-    "upper case",
-    "both cases",
-    "spaces",
-    "tabs",
-    "carriage returns",
-    "blanks in front",
-    "odd digits",
-    "00 before octets",
-    "0 0 before octets",
-    "a number before octets",
-    "a sign",
-    "0 -",
-    "a number with a zero",
-    "three digits and a dash",
-    "no blank before the dash",
-    "a word",
-    "an octet 0",
-    "octets over 127",
-    "junk in a comment",
-];
-pub const SHAPES: &[&str] = &[
-    "4,095",
-    "4,096",
-    "4,097",
-    "far too long",
-    "known",
-    "unknown of one octet",
-    "unknown with two octets of length",
-    "unknown with one octet of length",
-    "a known one again",
-    "a known one late",
-    "no contents",
-    "many names",
-    "half a name",
-    "long updates of length 0",
-    "no records",
-    "cut",
-];
-pub const PRINTED: &[&str] = &[
-    "",
-    "complete",
-    "notify",
-    "not a message",
-    "3 -",
-    "13 -",
-    "14 -",
-    "name",
-    "value",
-    "value -",
-    "read-error 01 not-supported",
-    "read-error 02 invalid-value",
-    "read-error 03 unavailable",
-    "read-error 6f protocol-error",
-    "update",
-    "update -",
-    "update-error 01 not-supported",
-    "update-error 02 invalid-value",
-    "update-error 6f protocol-error",
-    "long-update",
-    "long-update -",
-];
+    seen
+});
 
 #[test]
 fn captures_have_every_form_and_shape() {
-    let (mut found, mut printed): (BTreeMap<&str, usize>, BTreeMap<String, usize>) =
-        (BTreeMap::new(), BTreeMap::new());
-    let (mut counts, mut without_end) = (BTreeMap::new(), 0);
-    for seed in 1..=STREAMS {
-        let stream = stream(Kind::Captures, seed, LINES);
-        without_end += usize::from(!stream.ends_with(b"\n"));
-        for shown in shown(&stream) {
-            let mut names = Vec::new();
-            forms(&shown, &mut names);
-            shown
-                .octets
-                .iter()
-                .for_each(|message| shapes(message, &mut names));
-            names.sort();
-            names.dedup();
-            names
-                .into_iter()
-                .for_each(|name| *found.entry(name).or_default() += 1);
-            prints(&shown)
-                .into_iter()
-                .for_each(|name| *printed.entry(name).or_default() += 1);
-            for kind in ["value", "read-error", "update", "update-error"] {
-                *counts.entry((kind, shown.records(kind))).or_insert(0) += 1;
-            }
-        }
-    }
-    assert_often(&found, FORMS, 20);
-    assert_often(&found, SHAPES, 10);
+    assert_often(&SEEN.named, FORMS, 20);
+    assert_often(&SEEN.named, SHAPES, 10);
     let long = [
         "very long octets",
         "very long blanks",
         "very long, no message",
     ];
-    assert_often(&found, &long, 5);
-    assert_often(&printed, PRINTED, 100);
-    // Numbers as the port returns them.
-    assert_often(
-        &printed,
-        &["0 -", "2 -", "4 -", "5 -", "6 -", "7 -", "8 -"],
-        20,
-    );
-    for kind in ["value", "read-error", "update", "update-error"] {
-        assert!(
-            counts.get(&(kind, 255)).is_some_and(|count| *count >= 20),
-            "{kind}"
-        );
-    }
+    assert_often(&SEEN.named, &long, 5);
+    let without_end = SEEN.without_end;
     assert!((15..60).contains(&without_end), "{without_end} streams");
+}
+
+#[test]
+fn captures_print_everything() {
+    let printed = &SEEN.printed;
+    assert_often(printed, PRINTED, 100);
+    // Numbers as the port returns them.
+    let numbers = ["0 -", "2 -", "4 -", "5 -", "6 -", "7 -", "8 -"];
+    assert_often(printed, &numbers, 20);
+    for kind in COUNTED {
+        let most = SEEN.records.get(&(kind, 255)).copied().unwrap_or(0);
+        assert!(most >= 20, "{most} messages with 255 of {kind}");
+    }
     // Most of what is read is accepted.
     let [accepted, refused] = [["complete", "notify"], ["13 -", "14 -"]]
         .map(|words| words.iter().map(|word| printed[*word]).sum::<usize>());

@@ -6,6 +6,7 @@ mod gate;
 mod limits;
 mod measure;
 mod process;
+mod shapes;
 mod stack;
 mod stored;
 mod stored_desk;

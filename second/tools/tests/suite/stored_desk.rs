@@ -6,9 +6,8 @@ use kit::files::stored;
 use port::table::TABLE;
 use tools::traffic::{stream, Kind};
 
-use crate::captures::{assert_often, forms, prints, shapes, shown, Shown};
-use crate::captures::{FORMS, PRINTED, SHAPES};
 use crate::process::{text, DESK};
+use crate::shapes::{assert_often, names, prints, shown, Shown, FORMS, PRINTED, SHAPES};
 use crate::stored::assert_prints;
 
 /// What the part by chance follows from, and its lines.
@@ -43,18 +42,12 @@ fn the_stored_lines_follow_from_their_seed() {
 fn the_stored_lines_have_every_form_shape_and_number() {
     let (mut found, mut printed) = (BTreeMap::new(), BTreeMap::new());
     for shown in lines() {
-        let mut names = Vec::new();
-        forms(&shown, &mut names);
-        shown
-            .octets
-            .iter()
-            .for_each(|message| shapes(message, &mut names));
-        names
-            .into_iter()
-            .for_each(|name| *found.entry(name).or_insert(0) += 1);
-        prints(&shown)
-            .into_iter()
-            .for_each(|name| *printed.entry(name).or_insert(0) += 1);
+        for name in names(&shown) {
+            *found.entry(name).or_insert(0) += 1;
+        }
+        for name in prints(&shown) {
+            *printed.entry(name).or_insert(0) += 1;
+        }
     }
     assert_often(&found, FORMS, 1);
     assert_often(&found, SHAPES, 1);
