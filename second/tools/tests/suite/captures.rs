@@ -1,8 +1,10 @@
 //! What `traffic captures` is made of: every form of a line, and every shape of a message.
 
 use std::collections::BTreeMap;
+use std::io::{self, Read};
 use std::sync::LazyLock;
 
+use kit::Chance;
 use tools::traffic::{least_lines, stream, Kind};
 
 use crate::shapes::{assert_often, names, prints, shown, FORMS, PRINTED, SHAPES};
@@ -101,4 +103,31 @@ fn each_line_that_holds_something_prints_a_line() {
         assert!((150..200).contains(&printing), "{printing}");
     }
     assert_eq!(least_lines(Kind::Script, &[], 7), 7);
+}
+
+/// Hands out octets, a few at a time.
+struct Few<'a>(&'a [u8], Chance);
+
+impl Read for Few<'_> {
+    fn read(&mut self, room: &mut [u8]) -> io::Result<usize> {
+        let count = (1 + self.1.below(300)).min(self.0.len());
+        let (given, rest) = self.0.split_at(count);
+        room[..count].copy_from_slice(given);
+        self.0 = rest;
+        Ok(count)
+    }
+}
+
+#[test]
+fn a_line_is_read_the_same_however_it_comes() {
+    for seed in 1..=20 {
+        let stream = stream(Kind::Captures, seed, LINES);
+        let [mut whole, mut parted] = [Vec::new(), Vec::new()];
+        programs::desk::run(stream.as_slice(), &mut whole).unwrap();
+        programs::desk::run(Few(&stream, Chance::new(seed)), &mut parted).unwrap();
+        assert!(whole == parted, "seed {seed}");
+        let lines = shown(&stream).into_iter().flat_map(|shown| shown.printed);
+        let lines: String = lines.map(|line| line + "\n").collect();
+        assert!(lines.as_bytes() == whole, "seed {seed}");
+    }
 }
