@@ -2,3 +2,4 @@
 pub mod Exits
 pub mod OneOutcome
 pub mod Reached
+pub mod ReadReached

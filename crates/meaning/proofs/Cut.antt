@@ -223,7 +223,7 @@ module _ (m s room : List ℕ) (o : Octets s) (c : isCommand s ≡ true) (n : me
   accepted : Accepted m s (length room) (opsOf s)
   accepted = carried-accepted m s room c n
 
-  whole-fine : Each Fine (opsOf s)
+  pub whole-fine : Each Fine (opsOf s)
   unfolding operations
   whole-fine = parse-spelt (operations s) (opsOf s) (octets-part s 3 (lengthField s) o) (accepted .parsed) .1
 

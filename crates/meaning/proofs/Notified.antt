@@ -140,7 +140,7 @@ report-one m k hk =
     })
     (record { good = good-record (readError (rowAt k .name) 0x03) (name-small k hk); noNames = refl; noUpdates = refl; noUpdateErrors = refl; noLongUpdates = refl })
 
-reports-are : (m : List ℕ) (k : ℕ) → k ≤ entryCount → Report (gathered (reports m k))
+pub reports-are : (m : List ℕ) (k : ℕ) → k ≤ entryCount → Report (gathered (reports m k))
 unfolding reports gathered
 reports-are m zero h = no-report
 reports-are m (suc k) h =
@@ -177,7 +177,7 @@ unfoldable pub pendingErrors : List ℕ → ℕ → List Failed
 pendingErrors m zero = []
 pendingErrors m (suc k) = pendingErrors m k ++ cond (pending m k && not (present m k)) (failed (rowAt k .name) 0x03) []
 
-reports-say : (m : List ℕ) (k : ℕ)
+pub reports-say : (m : List ℕ) (k : ℕ)
     → (gathered (reports m k) .values ≡ pendingValues m k) × (gathered (reports m k) .readErrors ≡ pendingErrors m k)
 unfolding reports report gathered recordOf pendingValues pendingErrors
 reports-say m zero = (refl, refl)

@@ -10,3 +10,4 @@ pub mod Operation
 pub mod Step
 pub mod Reply
 pub mod Calls
+pub mod Capture

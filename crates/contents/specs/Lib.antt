@@ -1,0 +1,2 @@
+-- What the contracts of `contents` cite beside `meaning`.
+pub mod Spans
