@@ -88,14 +88,18 @@ short-front h t g =
     let d : drop 2 (be16 (h .name) ++ (length v ∷ v ++ t)) ≡ length v ∷ v ++ t = unfold be16 in refl in
     rw (s, at16-be16 (h .name) (length v ∷ v ++ t) (g .0), d, sized-one v t)
 
-pub failed-front : (cause : ℕ → ℕ) → Front failedOctets (frontFailed cause) (GoodCause cause)
+-- an error, with its cause as it reads
+pub failed-reads : (cause : ℕ → ℕ) (f : Failed) (t : List ℕ) → f .name < 65536 → frontFailed cause (failedOctets f ++ t) ≡ some (record { name = f .name; cause = cause (f .cause) }, t)
 unfolding frontFailed failedOctets
-failed-front cause f t g =
+failed-reads cause f t g =
     let s : be16 (f .name) ++ (f .cause ∷ []) ++ t ≡ be16 (f .name) ++ (f .cause ∷ t) = append-assoc (be16 (f .name)) (f .cause ∷ []) t in
     let l : 3 ≤ length (be16 (f .name) ++ (f .cause ∷ t)) = unfold be16 in omega arith in
     let d : drop 3 (be16 (f .name) ++ (f .cause ∷ t)) ≡ t = unfold be16 in refl in
     let o : octet (be16 (f .name) ++ (f .cause ∷ t)) 2 ≡ f .cause = unfold be16 in refl in
-    rw (s, le-leb 3 (length (be16 (f .name) ++ (f .cause ∷ t))) l, at16-be16 (f .name) (f .cause ∷ t) (g .0), d, o, g .1)
+    rw (s, le-leb 3 (length (be16 (f .name) ++ (f .cause ∷ t))) l, at16-be16 (f .name) (f .cause ∷ t) g, d, o)
+
+pub failed-front : (cause : ℕ → ℕ) → Front failedOctets (frontFailed cause) (GoodCause cause)
+failed-front cause f t g = failed-reads cause f t (g .0) ∙ rw (g .1)
 
 -- ---- several records
 
@@ -112,7 +116,7 @@ module _ {A : Type 0} (f : A → List ℕ) (one : List ℕ → Option (A × List
   pub count-last : (l : List A) → Each Good l → behindCount one (length l ∷ flat f l) ≡ some (l, [])
   count-last l g = ap (λ (t : List ℕ). behindCount one (length l ∷ t)) (sym (append-nil (flat f l))) ∙ count-front l [] g
 
-  end-step : (s : List ℕ) (n : ℕ) → 1 ≤ length s → untilEndIn one (suc n) s ≡ thenRead (one s) (λ a. thenRead (untilEndIn one n (a .1)) (λ as′. some (a .0 ∷ as′)))
+  pub end-step : (s : List ℕ) (n : ℕ) → 1 ≤ length s → untilEndIn one (suc n) s ≡ thenRead (one s) (λ a. thenRead (untilEndIn one n (a .1)) (λ as′. some (a .0 ∷ as′)))
   unfolding untilEndIn
   end-step [] n h = absurd (omega arith)
   end-step (x ∷ s) n h = refl
