@@ -20,19 +20,10 @@ use Rattle.capture.specs.declared.Record.the-variants.{Name, Value, Read
 use Rattle.capture.specs.declared.Handed.{Handed}
 use Rattle.capture.specs.declared.Handed.the-variants as Handed
 use Rattle.capture.specs.Opening.{cursor}
-use Rattle.capture.specs.Handing.{handing, valued, failed, handedName, handedValue, handedReadError, handedUpdate, handedUpdateError, handedLongUpdate, handedAt}
+use Rattle.capture.specs.Handing.{recordOf, Inside, handing, valued, failed, handedName, handedValue, handedReadError, handedUpdate, handedUpdateError, handedLongUpdate, handedAt}
 use Rattle.capture.proofs.Handouts.{nothing-next}
 use Rattle.capture.proofs.Handouts as handouts
 use Rattle.capture.proofs.OneKind.{Standing, Anywhere, name-placing, failed-placing, held-placing, name-leaves, failed-leaves, Whole, First, none-left, first-left}
-
--- a record of the code's enum as one of `meaning`: its value is a part of the message
-unfoldable pub recordOf : List ℕ → Record → OneRecord
-recordOf s (Name n) = aName n
-recordOf s (Value n from size) = aValue (record { name = n; value = part s from size })
-recordOf s (ReadError n c) = aReadError (record { name = n; cause = c })
-recordOf s (Update n from size) = anUpdate (record { name = n; value = part s from size })
-recordOf s (UpdateError n c) = anUpdateError (record { name = n; cause = c })
-recordOf s (LongUpdate n from size) = aLongUpdate (record { name = n; value = part s from size })
 
 -- ---- one record more
 
@@ -48,7 +39,7 @@ pub record Holds (s : List ℕ) (c : Cursor) (r : Capture) : Type 0 where
 -- what comes next of the records r: one of them, and a cursor that holds the others; or there is none
 pub data Next (s : List ℕ) (c : Cursor) (r : Capture) : Type 0 where
   ends : handedAt s c ≡ Handed.End → inOrder r ≡ [] → Next s c r
-  hands : (one : Record) (c′ : Cursor) (r′ : Capture) → handedAt s c ≡ Handed.Record one c′ → inOrder r ≡ recordOf s one ∷ inOrder r′ → Holds s c′ r′ → Next s c r
+  hands : (one : Record) (c′ : Cursor) (r′ : Capture) → handedAt s c ≡ Handed.Record one c′ → inOrder r ≡ recordOf s one ∷ inOrder r′ → Holds s c′ r′ → Inside s one → Next s c r
 
 -- the first record of a span that has octets left, put into a cursor
 module _ {A : Type 0} {one : List ℕ → Option (A × List ℕ)} {P : A → ℕ → Type 0} {s : List ℕ} {p : Span} {l : List A} (f : First one P s p l) (make : ℕ → A → Record) (put : Span → Cursor) where
@@ -85,7 +76,7 @@ module _ (r : Capture) where
 -- a value that stands where its record says
 standing-is : (s : List ℕ) (make : Held → OneRecord) (h : Held) (end : ℕ) → Standing s h end
     → make h ≡ make (record { name = h .name; value = part s (end - length (h .value)) (length (h .value)) })
-standing-is s make h end e = ap (λ (v : List ℕ). make (record { name = h .name; value = v })) (sym e)
+standing-is s make h end e = ap (λ (v : List ℕ). make (record { name = h .name; value = v })) (sym (e .0))
 
 module _ (s : List ℕ) (c : Cursor) (r : Capture) (h : Holds s c r) where
   -- a kind of which no octets are left has no records left
@@ -117,6 +108,7 @@ module _ (s : List ℕ) (c : Cursor) (r : Capture) (h : Holds s c r) where
       ∙ handed-first f (λ end n. Name n) (λ p. cursor p (c .values) (c .«read_errors») (c .updates) (c .«update_errors») (c .«long_updates»)))
       (name-first r (f .first) (f .others) (f .listed))
       (record { names = f .rest; values = h .values; readErrors = h .readErrors; updates = h .updates; updateErrors = h .updateErrors; longUpdates = h .longUpdates })
+      tt
 
   value-next : (e0 : c .names .to ≤ c .names .from) → c .values .from < c .values .to → Next s c r
   unfolding recordOf inOrder handedValue valued
@@ -128,6 +120,7 @@ module _ (s : List ℕ) (c : Cursor) (r : Capture) (h : Holds s c r) where
       ∙ handed-first f (valued Value) (λ p. cursor (c .names) p (c .«read_errors») (c .updates) (c .«update_errors») (c .«long_updates»)))
       (value-first r (f .first) (f .others) (no-name e0) (f .listed) ∙ ap (λ (x : OneRecord). x ∷ inOrder (capturing (r .names) (f .others) (r .readErrors) (r .updates) (r .updateErrors) (r .longUpdates))) (standing-is s aValue (f .first) (f .end) (f .placed)))
       (record { names = h .names; values = f .rest; readErrors = h .readErrors; updates = h .updates; updateErrors = h .updateErrors; longUpdates = h .longUpdates })
+      (omega (arith, f .placed .1, f .placed .2))
 
   read-error-next : (e0 : c .names .to ≤ c .names .from) (e1 : c .values .to ≤ c .values .from) → c .«read_errors» .from < c .«read_errors» .to → Next s c r
   unfolding recordOf inOrder handedReadError failed
@@ -139,6 +132,7 @@ module _ (s : List ℕ) (c : Cursor) (r : Capture) (h : Holds s c r) where
       ∙ handed-first f (failed ReadError) (λ p. cursor (c .names) (c .values) p (c .updates) (c .«update_errors») (c .«long_updates»)))
       (read-error-first r (f .first) (f .others) (no-name e0) (no-value e1) (f .listed))
       (record { names = h .names; values = h .values; readErrors = f .rest; updates = h .updates; updateErrors = h .updateErrors; longUpdates = h .longUpdates })
+      tt
 
   update-next : (e0 : c .names .to ≤ c .names .from) (e1 : c .values .to ≤ c .values .from) (e2 : c .«read_errors» .to ≤ c .«read_errors» .from) → c .updates .from < c .updates .to → Next s c r
   unfolding recordOf inOrder handedUpdate valued
@@ -150,6 +144,7 @@ module _ (s : List ℕ) (c : Cursor) (r : Capture) (h : Holds s c r) where
       ∙ handed-first f (valued Update) (λ p. cursor (c .names) (c .values) (c .«read_errors») p (c .«update_errors») (c .«long_updates»)))
       (update-first r (f .first) (f .others) (no-name e0) (no-value e1) (no-read-error e2) (f .listed) ∙ ap (λ (x : OneRecord). x ∷ inOrder (capturing (r .names) (r .values) (r .readErrors) (f .others) (r .updateErrors) (r .longUpdates))) (standing-is s anUpdate (f .first) (f .end) (f .placed)))
       (record { names = h .names; values = h .values; readErrors = h .readErrors; updates = f .rest; updateErrors = h .updateErrors; longUpdates = h .longUpdates })
+      (omega (arith, f .placed .1, f .placed .2))
 
   update-error-next : (e0 : c .names .to ≤ c .names .from) (e1 : c .values .to ≤ c .values .from) (e2 : c .«read_errors» .to ≤ c .«read_errors» .from) (e3 : c .updates .to ≤ c .updates .from) → c .«update_errors» .from < c .«update_errors» .to → Next s c r
   unfolding recordOf inOrder handedUpdateError failed
@@ -161,6 +156,7 @@ module _ (s : List ℕ) (c : Cursor) (r : Capture) (h : Holds s c r) where
       ∙ handed-first f (failed UpdateError) (λ p. cursor (c .names) (c .values) (c .«read_errors») (c .updates) p (c .«long_updates»)))
       (update-error-first r (f .first) (f .others) (no-name e0) (no-value e1) (no-read-error e2) (no-update e3) (f .listed))
       (record { names = h .names; values = h .values; readErrors = h .readErrors; updates = h .updates; updateErrors = f .rest; longUpdates = h .longUpdates })
+      tt
 
   long-update-next : (e0 : c .names .to ≤ c .names .from) (e1 : c .values .to ≤ c .values .from) (e2 : c .«read_errors» .to ≤ c .«read_errors» .from) (e3 : c .updates .to ≤ c .updates .from) (e4 : c .«update_errors» .to ≤ c .«update_errors» .from) → c .«long_updates» .from < c .«long_updates» .to → Next s c r
   unfolding recordOf inOrder handedLongUpdate valued
@@ -172,6 +168,7 @@ module _ (s : List ℕ) (c : Cursor) (r : Capture) (h : Holds s c r) where
       ∙ handed-first f (valued LongUpdate) (λ p. cursor (c .names) (c .values) (c .«read_errors») (c .updates) (c .«update_errors») p))
       (long-update-first r (f .first) (f .others) (no-name e0) (no-value e1) (no-read-error e2) (no-update e3) (no-update-error e4) (f .listed) ∙ ap (λ (x : OneRecord). x ∷ inOrder (capturing (r .names) (r .values) (r .readErrors) (r .updates) (r .updateErrors) (f .others))) (standing-is s aLongUpdate (f .first) (f .end) (f .placed)))
       (record { names = h .names; values = h .values; readErrors = h .readErrors; updates = h .updates; updateErrors = h .updateErrors; longUpdates = f .rest })
+      (omega (arith, f .placed .1, f .placed .2))
 
   none-next : c .names .to ≤ c .names .from → c .values .to ≤ c .values .from → c .«read_errors» .to ≤ c .«read_errors» .from → c .updates .to ≤ c .updates .from → c .«update_errors» .to ≤ c .«update_errors» .from → c .«long_updates» .to ≤ c .«long_updates» .from → Next s c r
   unfolding inOrder
@@ -233,7 +230,7 @@ module _ (s : List ℕ) (f : Cursor → Handed) (each : (c : Cursor) → f c ≡
       → ((c′ : Cursor) (r′ : Capture) → Holds s c′ r′ → length (inOrder r′) < length (inOrder r) → rest c′ ≡ some (inOrder r′)) → onward s (handedAt s c) rest ≡ some (inOrder r)
   unfolding onward withRecord
   one-more c r rest (ends e o) k = rw (e, o)
-  one-more c r rest (hands one c′ r′ e o h) k = rw (e, o, k c′ r′ h (omega (arith, ap length o)))
+  one-more c r rest (hands one c′ r′ e o h i) k = rw (e, o, k c′ r′ h (omega (arith, ap length o)))
 
   -- from a cursor that holds these records, by any number of calls above theirs
   pub from-cursor : (n : ℕ) (c : Cursor) (r : Capture) → Holds s c r → length (inOrder r) < n → handedOut s f n c ≡ some (inOrder r)

@@ -37,9 +37,9 @@ pub record Ends {A : Type 0} (P : A → ℕ → Type 0) (s : List ℕ) (from to 
 abbrev pub Placing : {A : Type 0} → (List ℕ → Option (A × List ℕ)) → (A → ℕ → Type 0) → List ℕ → Type 0
 Placing {A} one P s = (from to : ℕ) → from ≤ to → to ≤ length s → (a : A) (behind : List ℕ) → one (between s from to) ≡ some (a, behind) → Ends P s from to a behind
 
--- a value stands right before the place where its record ends
+-- a value stands in the message, right before the place where its record ends
 abbrev pub Standing : List ℕ → Held → ℕ → Type 0
-Standing s h end = part s (end - length (h .value)) (length (h .value)) ≡ h .value
+Standing s h end = (part s (end - length (h .value)) (length (h .value)) ≡ h .value) × (length (h .value) ≤ end) × (end ≤ length s)
 
 abbrev pub Anywhere : {A : Type 0} → A → ℕ → Type 0
 Anywhere a end = Unit {0}
@@ -84,7 +84,7 @@ module _ (s : List ℕ) where
         ahead = omega (arith, k .1, k .2);
         within = k .3;
         left = sym (ap (λ (x : Held × List ℕ). x .1) e);
-        placed = subst (λ (v : List ℕ). part s (p .to - length v) (length v) ≡ v) v (rw (n, m));
+        placed = subst (λ (v : List ℕ). (part s (p .to - length v) (length v) ≡ v) × (length v ≤ p .to) × (p .to ≤ length s)) v (rw (n, m), omega (arith, n), omega (arith, k .3, l));
       }
 
   pub held-placing : (w : ℕ) → 1 ≤ w → Placing (frontHeld w) (Standing s) s

@@ -10,14 +10,14 @@ use mathlib.Core.List.{List, [], _∷_, append-nil}
 use mathlib.Core.Option.{Option, none, some}
 use lib.ListN.{length, drop}
 use lib.Dec.{eqb, leb, ltb}
-use borrow.Author.Tests.{le-leb, lt-leb, le-ltb, eqb-false}
+use borrow.Author.Tests.{le-leb, lt-leb, leb-true, le-ltb, eqb-false}
 use Rattle.meaning.specs.Octets.{octet}
 use Rattle.meaning.specs.Reply.{Held as OneHeld, Failed as OneFailed}
 use Rattle.meaning.specs.Checks.{firstFailed, whenPassed}
-use Rattle.meaning.specs.Capture.{Capture, capturing, merged, OneRecord, inOrder, thenRead, frontName, frontHeld, frontFailed, updateCause, statusIn, ofElement, Elements, elementsOf, inReply, inNotification, sized, isReply, isNotification, contained, captureChecks, Captured, orNothing, capture}
+use Rattle.meaning.specs.Capture.{Capture, capturing, merged, OneRecord, inOrder, thenRead, frontName, frontHeld, frontFailed, updateCause, statusIn, ofElement, Elements, elementsOf, inReply, inNotification, sized, isReply, isNotification, isThere, contained, captureChecks, Captured, orNothing, capture}
 use Rattle.meaning.specs.Capture as meaning
 use Rattle.meaning.proofs.Lists.{Octets}
-use Rattle.meaning.proofs.Skipped.{keptOf}
+use Rattle.meaning.proofs.Tests.{first-passed}
 use Rattle.contents.specs.Spans.{span, octetsOf, standing, spanned, ofWalk, walked}
 use Rattle.contents.specs.declared.Span.{Span}
 use Rattle.contents.specs.declared.Sized.{Sized}
@@ -185,7 +185,7 @@ module _ (s : List ℕ) (octets : Octets s) (f : Cursor → Handed) (each : (c :
     where
       number-0 : Next s c r → numberOf (handedAt s c) ≡ 0
       number-0 (ends a o) = ap numberOf a ∙ unfold numberOf in refl
-      number-0 (hands one c′ r′ a o h′) = ap numberOf a ∙ unfold numberOf in refl
+      number-0 (hands one c′ r′ a o h′ i) = ap numberOf a ∙ unfold numberOf in refl
 
   empty-message : length s < 1 → capture s .number ≡ 2
   unfolding capture captureChecks firstFailed
@@ -232,3 +232,32 @@ module _ (s : List ℕ) (octets : Octets s) (f : Cursor → Handed) (each : (c :
   -- the first answer as the contract of `first` gives it, each further one as that of `next` does
   pub to-the-end : (first : Handed) → first ≡ handedFirst s → HandsOut s first (λ n. onward s first (handedOut s f n))
   to-the-end first e = rw e answers
+
+-- an accepted message hands out first what a cursor does that holds all of its records
+pub record FirstHolds (s : List ℕ) : Type 0 where
+  pub left : Cursor
+  pub first : handedFirst s ≡ handedAt s left
+  pub holds : Holds s left (capture s .records)
+
+module _ (s : List ℕ) (octets : Octets s) where
+  by-alike : (h : 1 ≤ length s) (l : length s ≤ 4096) (t : (isReply s || isNotification s) ≡ true) → isThere (contained s) ≡ true
+      → Alike s (cond (isReply s) (openedReply s) (openedNotification s)) (contained s) → FirstHolds s
+  unfolding ofOpened
+  by-alike h l t e (inl a) = absurd (false≢true (sym (ap isThere (a .1)) ∙ e))
+  by-alike h l t e (inr a) =
+      let c = captured-some s octets (handedAt s) (λ c. refl) h l t (a .records) (a .read) in
+      record {
+        left = a .left;
+        first = first-opened s h l t ∙ ap (ofOpened s) (a .opened);
+        holds = subst (λ (r : Capture). Holds s (a .left) r) (sym (ap (λ (x : Captured). x .records) c)) (a .holds);
+      }
+
+  pub first-holds : capture s .number ≡ 0 → FirstHolds s
+  unfolding capture captureChecks
+  first-holds e =
+      let a = first-passed 1 _ _ e in
+      let b = first-passed 2 _ _ (a .1) in
+      let c = first-passed 12 _ _ (b .1) in
+      let d = first-passed 13 _ _ (c .1) in
+      let h : 1 ≤ length s = leb-true _ _ (a .0) in
+      by-alike h (leb-true _ _ (b .0)) (c .0) (d .0) (opened-alike s octets h)

@@ -1,6 +1,6 @@
 -- What a message hands out at a cursor, for every message and every cursor: the record at the front of the first span that has octets left, as
 -- `Capture` of `meaning` reads it there, and the cursor without it.
-use Prim.Native.Nat.{ℕ, _-_}
+use Prim.Native.Nat.{ℕ, _+_, _-_, _≤_}
 use mathlib.Core.Bool.{cond}
 use mathlib.Core.List.{List}
 use mathlib.Core.Option.{Option, none, some}
@@ -8,7 +8,8 @@ use lib.ListN.{length}
 use lib.Dec.{leb, ltb}
 use Rattle.meaning.specs.Reply.{Held as OneHeld, Failed as OneFailed}
 use Rattle.meaning.specs.Wire.{replyMost}
-use Rattle.meaning.specs.Capture.{frontName, frontHeld, frontFailed, readCause, updateCause, isReply, isNotification}
+use Rattle.meaning.specs.Octets.{part}
+use Rattle.meaning.specs.Capture.{OneRecord, aName, aValue, aReadError, anUpdate, anUpdateError, aLongUpdate, frontName, frontHeld, frontFailed, readCause, updateCause, isReply, isNotification}
 use Rattle.contents.specs.Spans.{span, octetsOf, standing}
 use Rattle.contents.specs.declared.Span.{Span}
 use Rattle.capture.specs.Opening.{cursor, openedReply, openedNotification}
@@ -34,6 +35,26 @@ numberOf Handed.MessageEmpty = 2
 numberOf Handed.MessageTooLong = 3
 numberOf Handed.TypeUnknown = 13
 numberOf Handed.CutShort = 14
+
+-- ---- a record of the message s
+
+-- as one of `meaning`: its value is a part of the message
+unfoldable pub recordOf : List ℕ → Record → OneRecord
+recordOf s (Name n) = aName n
+recordOf s (Value n from size) = aValue (record { name = n; value = part s from size })
+recordOf s (ReadError n c) = aReadError (record { name = n; cause = c })
+recordOf s (Update n from size) = anUpdate (record { name = n; value = part s from size })
+recordOf s (UpdateError n c) = anUpdateError (record { name = n; cause = c })
+recordOf s (LongUpdate n from size) = aLongUpdate (record { name = n; value = part s from size })
+
+-- the value of a record lies in the message
+abbrev pub Inside : List ℕ → Record → Type 0
+Inside s (Name n) = Unit {0}
+Inside s (Value n from size) = from + size ≤ length s
+Inside s (ReadError n c) = Unit {0}
+Inside s (Update n from size) = from + size ≤ length s
+Inside s (UpdateError n c) = Unit {0}
+Inside s (LongUpdate n from size) = from + size ≤ length s
 
 -- ---- the front of a span
 

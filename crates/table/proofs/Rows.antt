@@ -1,5 +1,6 @@
 -- The code's table against that of `meaning`: an arm of its `match`, what is left when no arm fits, the lengths at which rules are asked.
-use Prim.Native.Nat.{ℕ, suc, _+_, _≤_}
+use Prim.Native.Nat.{ℕ, zero, suc, _+_, _≤_}
+use native.Mathlib.Nat.{add-suc}
 use native.Mathlib.Omega.{arith}
 use mathlib.Core.Path.{_≡_, refl, sym, ap, ap₂, _∙_}
 use mathlib.Core.Bool.{Bool, true, false, _&&_, _||_}
@@ -98,9 +99,14 @@ unfolding roomAt rooms rows
 no-arm k r h p q =
     (p ∙ sym (row-past k h), q ∙ rw (take-all k rows h), omega (arith, most-is r (table.row 0 0 0 nobody free) p, q))
 
--- a number that has come to j and is not j
-pub past : (j k : ℕ) → j ≤ k → (k ≡ j → ⊥) → suc j ≤ k
-past j k h n = lt-of-le-ne h (λ e. n (sym e))
+-- a number that none of the n arms from a on fits, as a `match` tells it
+abbrev pub NoneOf : ℕ → ℕ → ℕ → Type 0
+NoneOf a zero k = Unit {0}
+NoneOf a (suc n) k = NoneOf a n k × (k ≡ a + n → ⊥)
+
+pub past : (a n k : ℕ) → a ≤ k → NoneOf a n k → a + n ≤ k
+past a zero k l h = omega arith
+past a (suc n) k l h = rw add-suc (lt-of-le-ne (past a n k l (h .0)) (λ e. h .1 (sym e)))
 
 pub other : (x n : ℕ) → (n ≡ x → ⊥) → eqb x n ≡ false
 other x n d = ne-eqb x n (λ e. d (sym e))

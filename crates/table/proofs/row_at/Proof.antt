@@ -1,5 +1,4 @@
 -- `table::row_at` meets its contract.
-use Prim.Native.Nat.{_≤_}
 use native.Mathlib.Omega.{arith}
 use mathlib.Core.Path.{refl}
 use borrow.Author.Needs.{needs}
@@ -149,28 +148,8 @@ returns-19 c = arm 18 _ _ _ (c .before .match .keys19) (c .as-row19 .ensures .0)
 returns-20 : tie.Need-returns-20
 unfolding ownerOf ruleOf
 returns-20 c =
-    let r = c .before .match .rest in
     let k = c .before .before .args .k in
-    let h1 : 1 ≤ k = past 0 k (omega arith) (r .0 .0 .0 .0 .0 .0 .0 .0 .0 .0 .0 .0 .0 .0 .0 .0 .0 .0 .1) in
-    let h2 : 2 ≤ k = past 1 k h1 (r .0 .0 .0 .0 .0 .0 .0 .0 .0 .0 .0 .0 .0 .0 .0 .0 .0 .1) in
-    let h3 : 3 ≤ k = past 2 k h2 (r .0 .0 .0 .0 .0 .0 .0 .0 .0 .0 .0 .0 .0 .0 .0 .0 .1) in
-    let h4 : 4 ≤ k = past 3 k h3 (r .0 .0 .0 .0 .0 .0 .0 .0 .0 .0 .0 .0 .0 .0 .0 .1) in
-    let h5 : 5 ≤ k = past 4 k h4 (r .0 .0 .0 .0 .0 .0 .0 .0 .0 .0 .0 .0 .0 .0 .1) in
-    let h6 : 6 ≤ k = past 5 k h5 (r .0 .0 .0 .0 .0 .0 .0 .0 .0 .0 .0 .0 .0 .1) in
-    let h7 : 7 ≤ k = past 6 k h6 (r .0 .0 .0 .0 .0 .0 .0 .0 .0 .0 .0 .0 .1) in
-    let h8 : 8 ≤ k = past 7 k h7 (r .0 .0 .0 .0 .0 .0 .0 .0 .0 .0 .0 .1) in
-    let h9 : 9 ≤ k = past 8 k h8 (r .0 .0 .0 .0 .0 .0 .0 .0 .0 .0 .1) in
-    let h10 : 10 ≤ k = past 9 k h9 (r .0 .0 .0 .0 .0 .0 .0 .0 .0 .1) in
-    let h11 : 11 ≤ k = past 10 k h10 (r .0 .0 .0 .0 .0 .0 .0 .0 .1) in
-    let h12 : 12 ≤ k = past 11 k h11 (r .0 .0 .0 .0 .0 .0 .0 .1) in
-    let h13 : 13 ≤ k = past 12 k h12 (r .0 .0 .0 .0 .0 .0 .1) in
-    let h14 : 14 ≤ k = past 13 k h13 (r .0 .0 .0 .0 .0 .1) in
-    let h15 : 15 ≤ k = past 14 k h14 (r .0 .0 .0 .0 .1) in
-    let h16 : 16 ≤ k = past 15 k h15 (r .0 .0 .0 .1) in
-    let h17 : 17 ≤ k = past 16 k h16 (r .0 .0 .1) in
-    let h18 : 18 ≤ k = past 17 k h17 (r .0 .1) in
-    let h19 : 19 ≤ k = past 18 k h18 (r .1) in
-    no-arm k _ h19 (c .as-row20 .ensures .0) (c .as-row20 .ensures .1)
+    no-arm k _ (past 0 19 k (omega arith) (c .before .match .rest)) (c .as-row20 .ensures .0) (c .as-row20 .ensures .1)
 
 pub row-at-spec : {M : Type 1} → statement M
 row-at-spec =

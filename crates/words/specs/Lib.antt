@@ -1,0 +1,3 @@
+-- What a captured message prints.
+pub mod Words
+pub mod Lines
