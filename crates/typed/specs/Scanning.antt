@@ -1,0 +1,37 @@
+-- A line in octets that go on: those before the first line feed, and those behind it.
+use Prim.Native.Nat.{ℕ, _+_, _≤_}
+use Prim.Native.Char.{code}
+use mathlib.Core.Path.{_≡_}
+use mathlib.Core.Bool.{Bool, true, false, _||_, cond}
+use mathlib.Core.List.{List, [], _∷_}
+use lib.ListN.{length, drop}
+use lib.Dec.{eqb}
+use Rattle.typed.specs.declared.Line.{Line}
+use Rattle.typed.specs.declared.Scanned.{Scanned}
+use Rattle.typed.specs.Forms.{typedAll, typedIn, Keeps}
+
+abbrev pub isFeed : ℕ → Bool
+isFeed c = eqb c (code "\n")
+
+-- all octets where there is no line feed
+unfoldable pub beforeFeed : List ℕ → List ℕ
+beforeFeed [] = []
+beforeFeed (c ∷ s) = cond (isFeed c) [] (c ∷ beforeFeed s)
+
+unfoldable pub hasFeed : List ℕ → Bool
+hasFeed [] = false
+hasFeed (c ∷ s) = isFeed c || hasFeed s
+
+-- none where there is no line feed
+unfoldable pub behindFeed : List ℕ → List ℕ
+behindFeed [] = []
+behindFeed (c ∷ s) = cond (isFeed c) s (behindFeed s)
+
+-- what a scan leaves: the line's octets are taken, and the place is behind them and their line feed
+pub record Scans (room : List ℕ) (l : Line) (held : List ℕ) (from : ℕ) (r : Scanned) (room′ : List ℕ) : Type 0 where
+  pub keeps : Keeps room′ (r .line)
+  pub typedIs : typedIn room′ (r .line) ≡ typedAll (typedIn room l) (beforeFeed (drop from held))
+  pub endedIs : r .ended ≡ hasFeed (drop from held)
+  pub restIs : drop (r .at) held ≡ behindFeed (drop from held)
+  pub place : r .at ≡ from + length (beforeFeed (drop from held)) + cond (r .ended) 1 0
+  pub inside : r .at ≤ length held
