@@ -44,8 +44,8 @@ lastOf t (c ∷ s) = cond (isFeed c) (lastOf fresh s) (lastOf (typed t c) s)
 pub record Batched (held : List ℕ) (t : Typed) (from : ℕ) (t′ : Typed) (from′ at : ℕ) (out : List ℕ) : Type 0 where
   pub same : lastOf t′ (drop from′ held) ≡ lastOf t (drop from held)
   pub joined : take at out ++ printed t′ (drop from′ held) ≡ printed t (drop from held)
-  pub all : at < 65536 → from′ ≡ length held
-  pub onward : 65536 ≤ at → from < from′
+  pub all : at < 32768 → from′ ≡ length held
+  pub onward : 32768 ≤ at → from < from′
   pub within : from′ ≤ length held
   pub short : at ≤ length out
 

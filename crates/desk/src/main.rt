@@ -3,17 +3,20 @@
 use stdio::Got;
 use typed::Form;
 use typed::Line;
-ghost use Prim.Native.Nat.{_+_, _≤_};
+ghost use Prim.Native.Nat.{_+_, _≤_, _<_};
 ghost use mathlib.Core.Path.{_≡_};
-ghost use lib.ListN.{length};
+ghost use mathlib.Core.List.{[]};
+ghost use lib.ListN.{length, take};
 ghost use Rattle.octets.specs.Writing.{Wrote};
+ghost use Rattle.text.specs.Lines.{line};
+ghost use Rattle.words.specs.Lines.{messageLines};
 ghost use Rattle.typed.specs.Forms.{typedIn, Keeps};
 ghost use Rattle.desk.specs.Lines.{answerOf, Batched, Serves};
 
 // Octets of input that are held.
 const INPUT: usize = 65536;
 // Lines are written out when they fill this much.
-const DUE: usize = 65536;
+const DUE: usize = 32768;
 
 // How far the lines that are held are answered: the line that goes on, the place of what is not yet taken, and the place
 // behind what is printed.
@@ -29,26 +32,41 @@ enum Served {
     Closed,
 }
 
-// What a line prints that has ended, written at a place. Its octets are at the front of a room.
-fn answer(out: &mut [u8], at: usize, line: Line, octets: &[u8]) -> usize
-    requires { ⌜ Keeps (now octets) line × (at + 589833 ≤ length (now out)) ⌝ }
-    ensures { λ r. ⌜ Wrote (now (out .entry)) at (answerOf (typedIn (now (octets .entry)) line)) r (now (out .exit)) ⌝ }
+// What the octets print that are kept of a line, at the front of a room.
+fn tell_kept(out: &mut [u8], at: usize, octets: &[u8], count: usize) -> usize
+    requires { ⌜ (count ≤ length (now octets)) × (at + 98313 ≤ length (now out)) ⌝ }
+    ensures { λ r. ⌜ Wrote (now (out .entry)) at (messageLines (take count (now (octets .entry)))) r (now (out .exit)) ⌝ }
 {
-    let count = line.count;
-    let form = line.form;
+    telling::tell(out, at, &octets[..count])
+}
+
+// The line of a number with nothing behind it. What is kept lends the empty part.
+fn tell_number(out: &mut [u8], at: usize, number: usize, octets: &[u8]) -> usize
+    requires { ⌜ (number < 100) × (at + 5 ≤ length (now out)) ⌝ }
+    ensures { λ r. ⌜ Wrote (now (out .entry)) at (line number []) r (now (out .exit)) ⌝ }
+{
+    text::write_line(out, at, number, &octets[..0])
+}
+
+// What a line prints that has ended, written at a place.
+fn answer(out: &mut [u8], at: usize, ended: Line, octets: &[u8]) -> usize
+    requires { ⌜ Keeps (now octets) ended × (at + 98313 ≤ length (now out)) ⌝ }
+    ensures { λ r. ⌜ Wrote (now (out .entry)) at (answerOf (typedIn (now (octets .entry)) ended)) r (now (out .exit)) ⌝ }
+{
+    let form = ended.form;
     match form {
         Form::Blank => at,
-        Form::Refused(n) => text::write_line(out, at, n, &octets[..0]),
-        Form::Number(_) => telling::tell(out, at, &octets[..count]),
-        Form::Numbered(_) => telling::tell(out, at, &octets[..count]),
-        Form::Octets => telling::tell(out, at, &octets[..count]),
+        Form::Refused(n) => tell_number(out, at, n, octets),
+        Form::Number(_) => tell_kept(out, at, octets, ended.count),
+        Form::Numbered(_) => tell_kept(out, at, octets, ended.count),
+        Form::Octets => tell_kept(out, at, octets, ended.count),
         _ => words::write_not_a_message(out, at),
     }
 }
 
 // Answers the lines that end in what is held, from a place on, until none is left or lines are due.
 fn answer_lines(octets: &mut [u8], line: Line, held: &[u8], from: usize, out: &mut [u8]) -> Batch
-    requires { ⌜ Keeps (now octets) line × (from ≤ length (now held)) × (length (now out) ≡ 655369) ⌝ }
+    requires { ⌜ Keeps (now octets) line × (from ≤ length (now held)) × (length (now out) ≡ 131081) ⌝ }
     ensures { λ r. ⌜ Batched (now (held .entry)) (typedIn (now (octets .entry)) line) from (typedIn (now (octets .exit)) (r .line)) (r .from) (r .at) (now (out .exit)) × Keeps (now (octets .exit)) (r .line) ⌝ }
 {
     let mut read = line;
@@ -78,7 +96,7 @@ fn answer_lines(octets: &mut [u8], line: Line, held: &[u8], from: usize, out: &m
 // Takes all that is held. What is printed is written out at the end, so that a peer which waits for it has it before the next
 // read.
 fn serve(octets: &mut [u8], line: Line, held: &[u8], out: &mut [u8]) -> Served
-    requires { ⌜ Keeps (now octets) line × (length (now out) ≡ 655369) ⌝ }
+    requires { ⌜ Keeps (now octets) line × (length (now out) ≡ 131081) ⌝ }
     ensures { λ r. ⌜ Serves (now (held .entry)) (typedIn (now (octets .entry)) line) r (now (octets .exit)) ⌝ }
 {
     let mut read = line;
@@ -100,7 +118,7 @@ fn serve(octets: &mut [u8], line: Line, held: &[u8], out: &mut [u8]) -> Served
 
 // What the last line prints, which need not have an end.
 fn finish(octets: &[u8], line: Line, out: &mut [u8])
-    requires { ⌜ Keeps (now octets) line × (length (now out) ≡ 655369) ⌝ }
+    requires { ⌜ Keeps (now octets) line × (length (now out) ≡ 131081) ⌝ }
 {
     let at = answer(out, 0, line, octets);
     stdio::write_out(&out[..at], b"desk");
@@ -109,7 +127,7 @@ fn finish(octets: &[u8], line: Line, out: &mut [u8])
 // Reads and answers until the input ends. A proved loop has to end, and nothing says that input does: so the loop counts
 // its turns down, from a number that no run uses up.
 fn run(octets: &mut [u8], block: &mut [u8], out: &mut [u8])
-    requires { ⌜ (length (now octets) ≡ 4097) × (length (now block) ≡ 65536) × (length (now out) ≡ 655369) ⌝ }
+    requires { ⌜ (length (now octets) ≡ 4097) × (length (now block) ≡ 65536) × (length (now out) ≡ 131081) ⌝ }
 {
     let mut line = typed::start();
     let mut turns = u64::MAX;

@@ -12,9 +12,9 @@ ghost use Rattle.words.specs.Lines.{recordLine, messageLines, recordSize};
 ghost use Rattle.capture.specs.Handing.{recordOf, Inside};
 ghost use Rattle.telling.specs.Remaining.{headLine, sizes, remaining, Ready};
 
-// Octets that the lines of a message may take: 24 for each octet of a record, of which each of six kinds has no more than the
-// longest message; and the first line.
-pub const LINES: usize = 24 * (6 * wire::REPLY_MOST) + 9;
+// Octets that the lines of a message may take: 24 for each octet of a record, of which there are no more than the longest
+// message has; and the first line.
+pub const LINES: usize = 24 * wire::REPLY_MOST + 9;
 
 // The line of a record whose value stands in the message.
 fn write_value(
@@ -108,7 +108,7 @@ fn write_head(out: &mut [u8], at: usize, message: &[u8]) -> usize
 
 // All lines of a message.
 pub fn tell(out: &mut [u8], at: usize, message: &[u8]) -> usize
-    requires { ⌜ at + 589833 ≤ length (now out) ⌝ }
+    requires { ⌜ at + 98313 ≤ length (now out) ⌝ }
     ensures { λ r. ⌜ Wrote (now (out .entry)) at (messageLines (now (message .entry))) r (now (out .exit)) ⌝ }
 {
     let first = capture::first(message);
