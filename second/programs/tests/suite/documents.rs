@@ -58,6 +58,7 @@ fn path(head: &str, cells: &[&str], (before, _, after): &Group) -> Option<String
             let (part, file) = place(after.strip_prefix(" in ")?);
             match kind {
                 "law" => proofs((part, file)),
+                "edit" if part == "second" => "second/wrong".to_string(),
                 "edit" => format!("crates/{part}/must-fail"),
                 "contract" | "code" => format!("crates/{part}/src"),
                 _ if is_file(file) => format!("crates/{part}/specs/{file}.antt"),
@@ -209,13 +210,14 @@ fn a_name_that_stands_nowhere_is_missing() {
     let laws = "| Law | Place |\n| `bench`, `bensh` | Bench |\n| `bench` | endpoint: Told |";
     let trace =
         "| Held by | Tried by |\n| `rows` in Tables | `hex` in kit; edit `none` in delay |\n\
-                 | `rows` in Table | `scripts_reach_every_number` in traffic; `hex` in kits |";
+                 | `rows` in Table | `scripts_reach_every_number` in traffic; `hex` in kits |\n\
+                 | `rows` in Table | edit `capture_of_4097`, `capture_of_4098` in second |";
     let (count, missing) = placed(&format!("{laws}\n\n{trace}"));
     let expected = "bensh in crates/meaning/proofs/Bench.antt, \
                     bench in crates/endpoint/proofs/Told.antt, \
                     rows in crates/meaning/specs/Tables.antt, none in crates/delay/must-fail, \
-                    hex in second/*/tests/suite/kits.rs";
-    assert_eq!((count, missing.join(", ").as_str()), (9, expected));
+                    hex in second/*/tests/suite/kits.rs, capture_of_4098 in second/wrong";
+    assert_eq!((count, missing.join(", ").as_str()), (12, expected));
 }
 
 #[test]

@@ -8,7 +8,7 @@ use kit::files::ROOT;
 use tools::measure::table::{Figure, Row, Table};
 
 use crate::measure::{file, on_path, rows, TOOLS};
-use crate::process::{text, BRIDGE, MEASURE};
+use crate::process::{text, BRIDGE, DESK, MEASURE};
 use crate::{gate, stack};
 
 /// A call that takes as many octets of stack as it may, and one that takes 8 more.
@@ -119,6 +119,7 @@ fn repository(name: &str) -> PathBuf {
     }
     fs::copy(MEASURE, release.join("measure")).unwrap();
     fs::copy(*BRIDGE, release.join("bridge")).unwrap();
+    fs::copy(*DESK, release.join("desk")).unwrap();
     folder
 }
 
@@ -128,11 +129,12 @@ measure: proves and builds first what is not yet, which takes some minutes if no
 measure: measures, which takes some minutes
 ";
 
-/// Runs `./measure` with a bridge that is not compiled; what it says before is taken off. What stands
-/// in for `rt` makes a library of the listing, and what stands in for `cargo` builds nothing.
+/// Runs `./measure` with a bridge and a desk that are not compiled; what it says before is taken off.
+/// What stands in for `rt` makes a library of the listing, and what stands in for `cargo` builds nothing.
 fn script(name: &str, listing: &str) -> Output {
     let mut command = Command::new(repository(name).join("measure"));
-    command.arg(format!("{TOOLS}/silent")).env("PATH", path());
+    command.args([format!("{TOOLS}/silent"), format!("{TOOLS}/silent")]);
+    command.env("PATH", path());
     let mut output = command.env("LISTING", listing).output().unwrap();
     let said: Vec<u8> = output.stderr.drain(..SAID.len()).collect();
     assert_eq!(text(&said), SAID);
@@ -145,6 +147,8 @@ fn the_status_comes_through_the_script() {
     let figure = |output: &Output| rows(output)[rows(output).len() - 2][1].to_owned();
     let output = script("within", &most);
     assert_eq!(figure(&output), "3124 octets");
+    let desks = |row: &&[&str; 5]| row[0].starts_with("time of desk to the second's: ");
+    assert_eq!(rows(&output).iter().filter(desks).count(), 3);
     assert_eq!(output.status.code(), Some(0));
     let output = script("beyond", &over);
     assert_eq!(figure(&output), "3132 octets over");

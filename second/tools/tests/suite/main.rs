@@ -1,6 +1,6 @@
 //! All tests of the tools, and of the streams that are stored with the proved programs, in one program.
 
-mod captures;
+mod captured_lines;
 mod compare;
 mod gate;
 mod limits;
