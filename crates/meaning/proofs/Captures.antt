@@ -10,12 +10,12 @@ use mathlib.Core.List.{List, [], _∷_, _++_, map}
 use lib.ListN.{length}
 use lib.Dec.{eqb, leb}
 use borrow.Author.Tests.{le-leb, lt-leb, eq-eqb, ne-eqb}
-use Rattle.meaning.specs.Octets.{octet, zeros}
+use Rattle.meaning.specs.Octets.{octet, at16, part, zeros}
+use Rattle.meaning.specs.Block.{asNumberFrom, asNumber}
 use Rattle.meaning.specs.Checks.{firstFailed, whenPassed}
 use Rattle.meaning.specs.Reply.{Held, Failed}
-use Rattle.meaning.specs.Capture.{Capture, capturing, noCapture, OneRecord, aName, aValue, aReadError, anUpdate, anUpdateError, aLongUpdate, inOrder, updateCause, readCause, lengthOctets, isReply, isNotification, isThere, contained, captureChecks, Captured, orNothing, capture}
+use Rattle.meaning.specs.Capture.{Capture, capturing, noCapture, OneRecord, aName, aValue, aReadError, anUpdate, anUpdateError, aLongUpdate, inOrder, updateCause, readCause, lengthOctets, isReply, isNotification, isThere, contained, captureChecks, Captured, orNothing, capture, thenRead, sized, frontName, frontHeld, frontFailed, several, behindCount, untilEndIn, untilEnd, exactly, namesIn, statusIn, longsIn, resultIn, isRead, keeping, elementsIn, elementsOf, ofElement, ofElements, inReply, inNotification}
 use Rattle.meaning.proofs.Lists.{Octets}
-use Rattle.meaning.proofs.All.{all}
 use Rattle.meaning.proofs.Accepts.{Spelt, found-spelt}
 
 abbrev pub refusedWith : ℕ → Captured
@@ -165,5 +165,5 @@ unfoldable pub readOf : Example → Example
 readOf x = record { message = x .message; number = capture (x .message) .number; records = inOrder (capture (x .message) .records) }
 
 pub captures : map readOf examples ≡ examples
-unfolding all readOf examples
+unfolding at16 part asNumberFrom asNumber firstFailed whenPassed inOrder thenRead sized frontName frontHeld frontFailed updateCause readCause several behindCount untilEndIn untilEnd exactly namesIn statusIn longsIn resultIn lengthOctets isRead keeping elementsIn elementsOf ofElement ofElements inReply inNotification isReply isNotification contained captureChecks orNothing capture readOf examples
 captures = refl
