@@ -7,7 +7,7 @@ use Rattle.octets.specs.Letters.{letters}
 use Rattle.typed.specs.declared.Form.{Form}
 use Rattle.typed.specs.declared.Form.the-variants.{Blank, Digit, Lead, Number, Numbered, Octets, Half, Refused, Other}
 use Rattle.typed.specs.Signs.{isBlank, signOf}
-use Rattle.typed.specs.Forms.{bySign, paired, formAfter, completedBy, completed, Typed, fresh, typed, typedAll}
+use Rattle.typed.specs.Forms.{bySign, paired, formAfter, completedBy, completed, fresh, typed, typedAll}
 
 record Example : Type 0 where
   line : String

@@ -2,7 +2,7 @@
 use Prim.Native.Nat.{ℕ, _+_, _*_, _≤_, _<_}
 use native.Mathlib.Numerals.{add-one}
 use native.Mathlib.Omega.{arith}
-use mathlib.Core.Path.{_≡_, refl, sym, ap, _∙_}
+use mathlib.Core.Path.{_≡_, refl, sym, _∙_}
 use mathlib.Core.Bool.{Bool, true, false, _&&_, cond}
 use mathlib.Core.List.{List, [], _∷_, _++_, append-nil}
 use lib.ListN.{length, take, set, length-append}
@@ -18,7 +18,7 @@ use Rattle.typed.specs.declared.Form.{Form}
 use Rattle.typed.specs.declared.Form.the-variants.{Blank, Digit, Lead, Number, Numbered, Octets, Half, Refused, Other}
 use Rattle.typed.specs.declared.Line.{Line}
 use Rattle.typed.specs.Signs.{signOf}
-use Rattle.typed.specs.Forms.{bySign, paired, formAfter, completedBy, completed, Small, Keeps, Stores, Takes, typedIn, typed}
+use Rattle.typed.specs.Forms.{bySign, paired, formAfter, completedBy, completed, Small, Keeps, Stores, Takes, typed}
 use Rattle.typed.proofs.Signs.{SmallSign, small-sign}
 use Rattle.typed.proofs.Form.{the-type}
 

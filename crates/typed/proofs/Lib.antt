@@ -2,5 +2,7 @@
 pub mod Signs
 pub mod Forms
 pub mod Scanning
+pub mod Pairs
+pub mod Feeds
 pub mod Spelling
 pub mod Examples

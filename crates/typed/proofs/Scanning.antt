@@ -9,8 +9,8 @@ use lib.ListN.{length, getD, drop, drop-of-length-le}
 use lib.Seq.{drop-cons}
 use borrow.Author.Tests.{ne-eqb}
 use Rattle.typed.specs.declared.Line.{Line}
-use Rattle.typed.specs.Forms.{Typed, typed, typedAll, typedIn, Keeps, Takes}
-use Rattle.typed.specs.Scanning.{beforeFeed, hasFeed, behindFeed, Scans}
+use Rattle.typed.specs.Forms.{Typed, typedAll, typedIn, Keeps, Takes}
+use Rattle.typed.specs.Scanning.{beforeFeed, hasFeed, behindFeed, Goes, Scans}
 
 -- ---- the octet at a place
 
@@ -44,26 +44,19 @@ module _ (held : List ℕ) (at : ℕ) (h : at < length held) where
     unfolding behindFeed
     behind-later = rw (here, ne-eqb (getD held at 0) 10 f)
 
--- ---- a scan on its way
+-- ---- a line goes on
 
-pub record Scanning (room₀ : List ℕ) (l₀ : Line) (held : List ℕ) (from : ℕ) (room : List ℕ) (l : Line) (at : ℕ) : Type 0 where
-  pub keeps : Keeps room l
-  pub inside : at ≤ length held
-  pub typedIs : typedAll (typedIn room l) (beforeFeed (drop at held)) ≡ typedAll (typedIn room₀ l₀) (beforeFeed (drop from held))
-  pub endedIs : hasFeed (drop at held) ≡ hasFeed (drop from held)
-  pub restIs : behindFeed (drop at held) ≡ behindFeed (drop from held)
-  pub place : at + length (beforeFeed (drop at held)) ≡ from + length (beforeFeed (drop from held))
+pub goes-start : (room : List ℕ) (l : Line) (held : List ℕ) (from : ℕ) → Keeps room l → from ≤ length held → Goes room l held from room l from
+goes-start room l held from k h =
+    record { keeps = k; onward = omega arith; inside = h; typedIs = refl; endedIs = refl; restIs = refl; place = refl }
 
-pub scan-start : (room : List ℕ) (l : Line) (held : List ℕ) (from : ℕ) → Keeps room l → from ≤ length held → Scanning room l held from room l from
-scan-start room l held from k h =
-    record { keeps = k; inside = h; typedIs = refl; endedIs = refl; restIs = refl; place = refl }
-
-module _ {room₀ : List ℕ} {l₀ : Line} {held : List ℕ} {from : ℕ} {room : List ℕ} {l : Line} {at : ℕ} (s : Scanning room₀ l₀ held from room l at) where
-  pub scan-turn : {room′ : List ℕ} {r : Line} → at < length held → (getD held at 0 ≡ 10 → ⊥) → Takes room l (getD held at 0) r room′ → Scanning room₀ l₀ held from room′ r (at + 1)
+module _ {room₀ : List ℕ} {l₀ : Line} {held : List ℕ} {from : ℕ} {room : List ℕ} {l : Line} {at : ℕ} (s : Goes room₀ l₀ held from room l at) where
+  pub goes-one : {room′ : List ℕ} {r : Line} → at < length held → (getD held at 0 ≡ 10 → ⊥) → Takes room l (getD held at 0) r room′ → Goes room₀ l₀ held from room′ r (at + 1)
   unfolding typedAll
-  scan-turn h f t =
+  goes-one h f t =
       record {
         keeps = t .keeps;
+        onward = omega (arith, s .onward);
         inside = omega arith;
         typedIs =
             ap (λ (x : Typed). typedAll x (beforeFeed (drop (at + 1) held))) (t .typedIs)
@@ -73,6 +66,21 @@ module _ {room₀ : List ℕ} {l₀ : Line} {held : List ℕ} {from : ℕ} {room
         restIs = sym (behind-later held at h f) ∙ s .restIs;
         place = omega (arith, s .place, ap length (before-later held at h f));
       }
+
+  -- and further
+  pub goes-far : {room′ : List ℕ} {r : Line} {at′ : ℕ} → Goes room l held at room′ r at′ → Goes room₀ l₀ held from room′ r at′
+  goes-far t =
+      record {
+        keeps = t .keeps;
+        onward = omega (arith, s .onward, t .onward);
+        inside = t .inside;
+        typedIs = t .typedIs ∙ s .typedIs;
+        endedIs = t .endedIs ∙ s .endedIs;
+        restIs = t .restIs ∙ s .restIs;
+        place = t .place ∙ s .place;
+      }
+
+  -- ---- to its end
 
   pub scan-feed : at < length held → getD held at 0 ≡ 10 → Scans room₀ l₀ held from (record { line = l; at = at + 1; ended = true }) room
   unfolding typedAll

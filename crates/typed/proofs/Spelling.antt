@@ -1,26 +1,25 @@
 -- What is spelt reads back: octets in pairs of digits of either case with blanks between them, also behind `0` and blanks; a number
 -- and `-`. A comment changes nothing.
-use Prim.Native.Nat.{ℕ, suc, _+_, _*_, _/_, _%_, _≤_, _<_}
-use Prim.Native.Char.{code}
+use Prim.Native.Nat.{ℕ, _+_, _*_, _/_, _%_, _≤_, _<_}
 use native.Mathlib.Omega.{arith}
 use mathlib.Core.Path.{_≡_, refl, sym, ap, subst, _∙_}
 use mathlib.Core.Logic.{_⊎_, inl, inr}
 use mathlib.Core.Bool.{Bool, true, false, _&&_, _||_, cond, or-true}
 use mathlib.Core.List.{List, [], _∷_, _++_, map, append-assoc, append-nil}
-use lib.ListN.{length, take, length-append, length-map}
+use lib.ListN.{length, length-append, length-map}
 use lib.Seq.{take-all}
 use lib.Dec.{eqb, ltb}
-use borrow.Author.Tests.{ltb-true, ltb-false, lt-ltb, le-ltb, eqb-true, ne-eqb}
+use borrow.Author.Tests.{ltb-true, ltb-false, lt-ltb, eqb-true, ne-eqb}
 use Rattle.meaning.specs.Octets.{flat}
 use Rattle.meaning.proofs.Lists.{Each}
 use Rattle.meaning.proofs.Tests.{or-cases}
 use Rattle.typed.specs.declared.Sign.{Sign}
-use Rattle.typed.specs.declared.Sign.the-variants.{Hex, Space, Dash, Stray}
+use Rattle.typed.specs.declared.Sign.the-variants.{Hex, Space, Dash}
 use Rattle.typed.specs.declared.Form.{Form}
-use Rattle.typed.specs.declared.Form.the-variants.{Blank, Digit, Lead, Number, Numbered, Octets, Half, Refused, Other}
+use Rattle.typed.specs.declared.Form.the-variants.{Blank, Digit, Lead, Number, Numbered, Octets, Half, Refused}
 use Rattle.typed.specs.Signs.{isBlank, signOf}
 use Rattle.typed.specs.Forms.{bySign, paired, formAfter, completedBy, completed, Typed, typing, fresh, typed, typedAll}
-use Rattle.typed.proofs.Signs.{decimal, small-letter, capital}
+use Rattle.typed.proofs.Signs.{decimal, small-letter, capital, Known, no-hash}
 
 -- ---- texts
 
@@ -69,17 +68,6 @@ sign-blank c e = at (or-cases (eqb c 32) _ e)
 dash : signOf 45 ≡ Dash
 unfolding signOf isBlank
 dash = refl
-
--- a digit, a blank or `-`, and so no `#`
-abbrev Known : Sign → Type 0
-Known (Hex d) = Unit {0}
-Known Space = Unit {0}
-Known Dash = Unit {0}
-Known Stray = ⊥
-
-no-hash : (c : ℕ) (s : Sign) → signOf c ≡ s → Known s → c ≡ 35 → ⊥
-unfolding signOf isBlank
-no-hash c s e k h = subst Known (sym e ∙ ap signOf h) k
 
 -- ---- forms of lines that are spelt
 
@@ -191,7 +179,7 @@ octets-read : (t : Typed) (p : Pair) (ps : List Pair) (end : List ℕ) → Reads
 unfolding flat
 octets-read t p ps end r g e h =
     let n : length (map (λ q. q .octet) (p ∷ ps)) ≤ 4097 = simp length-map (omega arith) in
-    rw (append-assoc, typed-append t (spelling p) (flat spelling ps ++ end), typed-append _ (flat spelling ps) end)
+    rw (append-assoc (spelling p) (flat spelling ps) end, typed-append t (spelling p) (flat spelling ps ++ end), typed-append _ (flat spelling ps) end)
     (blanks end whole-space e n (pairs ps (g .1) (omega arith) (pair p (g .0) (omega arith) r)))
 
 -- ---- the laws

@@ -2,10 +2,11 @@
 use Prim.Native.Nat.{ℕ, _+_, _≤_}
 use Prim.Native.Char.{code}
 use mathlib.Core.Path.{_≡_}
-use mathlib.Core.Bool.{Bool, true, false, _||_, cond}
+use mathlib.Core.Bool.{Bool, false, _||_, cond}
 use mathlib.Core.List.{List, [], _∷_}
 use lib.ListN.{length, drop}
 use lib.Dec.{eqb}
+use Rattle.typed.specs.declared.Form.the-variants.{Octets}
 use Rattle.typed.specs.declared.Line.{Line}
 use Rattle.typed.specs.declared.Scanned.{Scanned}
 use Rattle.typed.specs.Forms.{typedAll, typedIn, Keeps}
@@ -26,6 +27,20 @@ hasFeed (c ∷ s) = isFeed c || hasFeed s
 unfoldable pub behindFeed : List ℕ → List ℕ
 behindFeed [] = []
 behindFeed (c ∷ s) = cond (isFeed c) s (behindFeed s)
+
+-- a line that goes on: what is left to take at a place is what was to be taken at another before it
+pub record Goes (room₀ : List ℕ) (l₀ : Line) (held : List ℕ) (from : ℕ) (room : List ℕ) (l : Line) (at : ℕ) : Type 0 where
+  pub keeps : Keeps room l
+  pub onward : from ≤ at
+  pub inside : at ≤ length held
+  pub typedIs : typedAll (typedIn room l) (beforeFeed (drop at held)) ≡ typedAll (typedIn room₀ l₀) (beforeFeed (drop from held))
+  pub endedIs : hasFeed (drop at held) ≡ hasFeed (drop from held)
+  pub restIs : behindFeed (drop at held) ≡ behindFeed (drop from held)
+  pub place : at + length (beforeFeed (drop at held)) ≡ from + length (beforeFeed (drop from held))
+
+-- one that has whole octets
+abbrev pub wholeOctets : ℕ → Line
+wholeOctets n = record { form = Octets; comment = false; count = n }
 
 -- what a scan leaves: the line's octets are taken, and the place is behind them and their line feed
 pub record Scans (room : List ℕ) (l : Line) (held : List ℕ) (from : ℕ) (r : Scanned) (room′ : List ℕ) : Type 0 where

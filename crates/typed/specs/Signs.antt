@@ -19,3 +19,10 @@ signOf c =
     (cond (between "A" "F" c) (Hex (c - code "A" + 10))
     (cond (isBlank c) Space
     (cond (eqb c (code "-")) Dash Stray))))
+
+-- a number tells a sign: a digit's value, or 16 and more where it is none
+unfoldable pub decodes : Sign → ℕ → Bool
+decodes (Hex d) v = eqb v d
+decodes Space v = leb 16 v
+decodes Dash v = leb 16 v
+decodes Stray v = leb 16 v

@@ -1,12 +1,13 @@
 // What a line of input stands for (RULES 21), found octet by octet, so that a line of any length is taken with a room of 4,097
 // octets. Each function says by a definition of `Forms` what it makes of a line.
-ghost use Prim.Native.Nat.{_+_, _*_, _≤_, _<_};
+ghost use Prim.Native.Nat.{_≤_, _<_};
 ghost use mathlib.Core.Path.{_≡_};
-ghost use mathlib.Core.List.{_++_, _∷_, []};
-ghost use lib.ListN.{length, take};
-ghost use Rattle.typed.specs.Signs.{signOf};
+ghost use mathlib.Core.Bool.{true};
+ghost use mathlib.Core.List.{_∷_, []};
+ghost use lib.ListN.{length};
+ghost use Rattle.typed.specs.Signs.{signOf, decodes};
 ghost use Rattle.typed.specs.Forms.{paired as Forms·paired, formAfter, completedBy, Starts, Small, Keeps, Stores, Takes};
-ghost use Rattle.typed.specs.Scanning.{Scans};
+ghost use Rattle.typed.specs.Scanning.{wholeOctets, Goes, Scans};
 
 // Octets that are kept of a line: one more than a message may have.
 pub const KEPT_MOST: usize = 4097;
@@ -48,6 +49,12 @@ pub struct Line {
     pub count: usize,
 }
 
+// A line that goes on at a place in what is held.
+struct Run {
+    line: Line,
+    at: usize,
+}
+
 // A line to a place in what is held; whether it has ended there.
 pub struct Scanned {
     pub line: Line,
@@ -68,13 +75,30 @@ pub fn start() -> Line
 
 // ---- an octet
 
+// The value of a hexadecimal digit; 16 or more of another octet. The lesser of two numbers, each 16 or more where it does not
+// count: how far an octet lies behind `0`, 9 at most, and behind `a`, 5 at most, with a letter made small; 208 and 159 take `0`
+// and `a` off in 256. Tests would be branches, and which digit comes cannot be foretold.
+fn digit(c: u8) -> usize
+    ensures { λ r. ⌜ decodes (signOf c) r ≡ true ⌝ }
+{
+    let x = octets::wide(c);
+    let behind = (x + 208) % 256;
+    let decimal = behind + (behind + 6) / 16 * 6;
+    let letter = ((x | 32) + 159) % 256 + 10;
+    if decimal < letter {
+        return decimal;
+    }
+    letter
+}
+
 fn sign_of(c: u8) -> Sign
     ensures { λ r. ⌜ r ≡ signOf c ⌝ }
 {
+    let d = digit(c);
+    if d < 16 {
+        return Sign::Hex(d as u8);
+    }
     match c {
-        b'0'..=b'9' => Sign::Hex(c - b'0'),
-        b'a'..=b'f' => Sign::Hex(c - b'a' + 10),
-        b'A'..=b'F' => Sign::Hex(c - b'A' + 10),
         b' ' => Sign::Space,
         b'\t' => Sign::Space,
         b'\r' => Sign::Space,
@@ -207,6 +231,55 @@ fn take(room: &mut [u8], line: Line, c: u8) -> Line
     }
 }
 
+// A line of whole octets that goes on at a place.
+fn in_octets(count: usize, at: usize) -> Run
+    ensures { λ r. ⌜ (r .line ≡ wholeOctets count) × (r .at ≡ at) ⌝ }
+{
+    Run {
+        line: Line {
+            form: Form::Octets,
+            comment: false,
+            count,
+        },
+        at,
+    }
+}
+
+// Pairs of digits taken behind whole octets: what most of a long line is. The two digits are tested at once.
+fn take_pairs(room: &mut [u8], count: usize, held: &[u8], from: usize) -> Run
+    requires { ⌜ Keeps (now room) (wholeOctets count) × (from ≤ length (now held)) ⌝ }
+    ensures { λ r. ⌜ Goes (now (room .entry)) (wholeOctets count) (now (held .entry)) from (now (room .exit)) (r .line) (r .at) ⌝ }
+{
+    let mut kept = count;
+    let mut at = from;
+    while 1 < held.len() - at {
+        let h = digit(held[at]);
+        let d = digit(held[at + 1]);
+        let both = h | d;
+        if 15 < both {
+            return in_octets(kept, at);
+        }
+        kept = keep(room, kept, (h * 16 + d) as u8);
+        at += 2;
+    }
+    in_octets(kept, at)
+}
+
+// A line of whole octets goes on by pairs; any other stays where it is.
+fn take_run(room: &mut [u8], line: Line, held: &[u8], from: usize) -> Run
+    requires { ⌜ Keeps (now room) line × (from ≤ length (now held)) ⌝ }
+    ensures { λ r. ⌜ Goes (now (room .entry)) line (now (held .entry)) from (now (room .exit)) (r .line) (r .at) ⌝ }
+{
+    if line.comment {
+        return Run { line, at: from };
+    }
+    let form = line.form;
+    let Form::Octets = form else {
+        return Run { line, at: from };
+    };
+    take_pairs(room, line.count, held, from)
+}
+
 // Octets taken from a place on, up to the first line feed, which is passed, or to the end.
 pub fn scan(room: &mut [u8], line: Line, held: &[u8], from: usize) -> Scanned
     requires { ⌜ Keeps (now room) line × (from ≤ length (now held)) ⌝ }
@@ -224,7 +297,10 @@ pub fn scan(room: &mut [u8], line: Line, held: &[u8], from: usize) -> Scanned
                 ended: true,
             };
         }
-        read = take(room, read, c);
+        let taken = take(room, read, c);
+        let run = take_run(room, taken, held, at);
+        read = run.line;
+        at = run.at;
     }
     Scanned {
         line: read,

@@ -3,7 +3,7 @@ use Prim.Native.Nat.{ℕ, _+_, _*_, _≤_}
 use native.Mathlib.Omega.{arith}
 use mathlib.Core.Path.{_≡_, refl}
 use mathlib.Core.Bool.{Bool, true, false, cond}
-use mathlib.Core.List.{List, _++_}
+use mathlib.Core.List.{List}
 use lib.ListN.{length, length-append}
 use lib.Dec.{leb, ltb, eqb}
 use borrow.Author.Tests.{leb-true, ltb-true, ltb-false}
@@ -13,7 +13,7 @@ use Rattle.meaning.specs.Reply.{Held, Failed}
 use Rattle.meaning.specs.Capture.{OneRecord, aName, aValue, aReadError, anUpdate, anUpdateError, aLongUpdate}
 use Rattle.meaning.proofs.Tests.{below-at}
 use Rattle.octets.specs.Letters.{letters}
-use Rattle.text.specs.Lines.{hex, octetsLine}
+use Rattle.text.specs.Lines.{hex}
 use Rattle.text.proofs.Writes.{octets-short}
 use Rattle.words.specs.Words.{parameters, wordAt, word, causeWord}
 use Rattle.words.specs.Lines.{started, nameLine, heldLine, failedLine, recordLine, recordSize}

@@ -1,6 +1,5 @@
 -- The lines that a captured message prints: its type, then one for each record.
 use Prim.Native.Nat.{ℕ, _+_}
-use Prim.Native.String.{String}
 use mathlib.Core.Bool.{cond}
 use mathlib.Core.List.{List, [], _∷_, _++_}
 use lib.ListN.{length}

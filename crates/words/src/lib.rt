@@ -147,6 +147,7 @@ pub fn write_update_error(out: &mut [u8], at: usize, name: usize, cause: u8) -> 
 
 // ---- other lines
 
+// What stands ahead of a reply's records, and of a notification's.
 pub fn write_complete(out: &mut [u8], at: usize) -> usize
     requires { ⌜ at + 9 ≤ length (now out) ⌝ }
     ensures { λ r. ⌜ Wrote (now (out .entry)) at completeLine r (now (out .exit)) ⌝ }
@@ -161,6 +162,7 @@ pub fn write_notify(out: &mut [u8], at: usize) -> usize
     octets::append(out, at, b"notify\n")
 }
 
+// For a line that stands for no message.
 pub fn write_not_a_message(out: &mut [u8], at: usize) -> usize
     requires { ⌜ at + 14 ≤ length (now out) ⌝ }
     ensures { λ r. ⌜ Wrote (now (out .entry)) at notAMessage r (now (out .exit)) ⌝ }

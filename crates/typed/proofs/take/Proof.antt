@@ -4,7 +4,7 @@ use mathlib.Core.Path.{refl, sym, _∙_}
 use borrow.Author.Needs.{needs}
 use Rattle.typed.specs.declared.Sign.the-variants.{Hex, Space, Dash, Stray}
 use Rattle.typed.specs.declared.Form.the-variants.{Other}
-use Rattle.typed.specs.Forms.{formAfter, completed}
+use Rattle.typed.specs.Forms.{completed}
 use Rattle.typed.proofs.Signs.{small-sign}
 use Rattle.typed.proofs.Forms.{stray-makes-other, in-comment, comment-begins, goes-on, goes-on-bare}
 use Rattle.typed.proofs.take.Statement.{statement}

@@ -1,6 +1,5 @@
 -- `words::write_name` meets its contract.
 use native.Mathlib.Omega.{arith}
-use lib.ListN.{length-set}
 use borrow.Author.Needs.{needs}
 use Rattle.octets.specs.Letters.{letters}
 use Rattle.text.proofs.Writes.{then-one}

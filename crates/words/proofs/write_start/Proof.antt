@@ -1,7 +1,6 @@
 -- `words::write_start` meets its contract.
 use native.Mathlib.Omega.{arith}
 use mathlib.Core.Path.{_∙_}
-use mathlib.Core.List.{[], _∷_}
 use lib.ListN.{length-set}
 use borrow.Author.Needs.{needs}
 use Rattle.meaning.specs.Octets.{be16}
