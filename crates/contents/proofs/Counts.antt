@@ -22,11 +22,11 @@ use Rattle.contents.proofs.Records.{endOf, several-behind, told-none, t
 -- ---- errors take three octets each
 
 module _ (cause : ℕ → ℕ) where
-  pub failed-there : (t : List ℕ) → 3 ≤ length t → frontFailed cause t ≡ some (record { name = at16 t 0; cause = cause (octet t 2) }, drop 3 t)
+  failed-there : (t : List ℕ) → 3 ≤ length t → frontFailed cause t ≡ some (record { name = at16 t 0; cause = cause (octet t 2) }, drop 3 t)
   unfolding frontFailed
   failed-there t h = rw (le-leb 3 (length t) h)
 
-  pub failed-short : (t : List ℕ) → length t < 3 → frontFailed cause t ≡ none
+  failed-short : (t : List ℕ) → length t < 3 → frontFailed cause t ≡ none
   unfolding frontFailed
   failed-short t h = rw (lt-leb 3 (length t) h)
 

@@ -65,7 +65,7 @@ abbrev pub readFrom : List ℕ → Contents → ℕ → Option (Elements Span)
 readFrom s k at = walkFrom (standing (length s)) (elementsIs k) (drop at s)
 
 module _ (s : List ℕ) (k : Contents) (at : ℕ) where
-  pub walk-end : length s ≤ at → readFrom s k at ≡ some (elementsIs k)
+  walk-end : length s ≤ at → readFrom s k at ≡ some (elementsIs k)
   unfolding elementsIn
   walk-end h = rw (drop-of-length-le s h)
 

@@ -1,8 +1,8 @@
 -- `capture::held_in` meets its contract.
 use native.Mathlib.Omega.{arith}
-use mathlib.Core.Path.{sym, _∙_, subst}
+use mathlib.Core.Path.{sym, _∙_}
 use borrow.Author.Needs.{needs}
-use Rattle.contents.proofs.Lengths.{Found, found}
+use Rattle.contents.proofs.Lengths.{found}
 use Rattle.capture.proofs.Fronts.{name-told, no-name-told, value-found, value-cut, value-short}
 use Rattle.capture.proofs.held_in.Statement.{statement}
 use Rattle.capture.proofs.held_in.Tie as tie
@@ -42,14 +42,14 @@ returns-2 c =
     let o = c .before .before in
     let e = o .before .before .before in
     let f = name-told _ _ (omega arith) _ (sym (e .name .given .1) ∙ e .before .before .name-in .ensures) in
-    value-cut _ _ _ (f .0) (subst (Found _ _ _ _) (c .enum-told2 .given .1) (found _ _ _ _ (f .0 .1) (f .0 .0) _ (o .sized-at .ensures)))
+    value-cut _ _ _ (f .0) (found _ _ _ _ (f .0 .1) (f .0 .0) _ (sym (c .enum-told2 .given .1) ∙ o .sized-at .ensures))
 
 returns-3 : tie.Need-returns-3
 returns-3 c =
     let o = c .before .before .before in
     let e = o .before .before .before in
     let f = name-told _ _ (omega arith) _ (sym (e .name .given .1) ∙ e .before .before .name-in .ensures) in
-    value-found _ _ _ _ _ (f .0) (f .1) (subst (Found _ _ _ _) (c .before .v .given .1) (found _ _ _ _ (f .0 .1) (f .0 .0) _ (o .sized-at .ensures)))
+    value-found _ _ _ _ _ (f .0) (f .1) (found _ _ _ _ (f .0 .1) (f .0 .0) _ (sym (c .before .v .given .1) ∙ o .sized-at .ensures))
 
 pub held-in-spec : {M : Type 1} → statement M
 held-in-spec =

@@ -35,19 +35,21 @@ whole-requires : tie.Need-whole-requires
 whole-requires c κs =
     let e = c .before .before .before in
     let f = found _ _ _ _ (omega arith) (omega arith) _ (sym (e .p .given .1) ∙ e .before .before .sized-at .ensures) in
-    (f .2, omega (arith, f .3))
+    omega (arith, f .2, f .3)
 
 returns-4 : tie.Need-returns-4
 returns-4 c =
     let e = c .before .before .before .before .before in
     let o = e .before .before in
-    longs-broken _ _ _ (o .before .if1 .left) _ (sym (e .p .given .1) ∙ o .sized-at .ensures) (c .before .before .if2 .left) (sym (not-true _ (c .if3 .taken)) ∙ c .before .whole .ensures)
+    longs-broken _ _ _ (o .before .if1 .left) _ (sym (e .p .given .1) ∙ o .sized-at .ensures) (c .before .before .if2 .left)
+    (sym (not-true _ (c .if3 .taken)) ∙ c .before .whole .ensures)
 
 returns-5 : tie.Need-returns-5
 returns-5 c =
     let e = c .before .before .before .before .before in
     let o = e .before .before in
-    longs-left _ _ _ (o .before .if1 .left) _ (sym (e .p .given .1) ∙ o .sized-at .ensures) (c .before .before .if2 .left) (sym (not-false _ (c .if3 .left)) ∙ c .before .whole .ensures)
+    longs-left _ _ _ (o .before .if1 .left) _ (sym (e .p .given .1) ∙ o .sized-at .ensures) (c .before .before .if2 .left)
+    (sym (not-false _ (c .if3 .left)) ∙ c .before .whole .ensures)
 
 pub longs-at-spec : {M : Type 1} → statement M
 longs-at-spec =

@@ -1,4 +1,5 @@
 -- `capture::open_status` meets its contract.
+use native.Mathlib.Omega.{arith}
 use mathlib.Core.Path.{sym, _∙_}
 use borrow.Author.Needs.{needs}
 use Rattle.capture.proofs.Openings.{status-unread, status-cut, status-over, status-left}
@@ -26,7 +27,7 @@ returns-3 : tie.Need-returns-3
 returns-3 c =
     let e = c .before .before .before .before in
     let o = e .before .before in
-    status-over _ _ _ (o .before .if1 .left) _ _ (sym (e .values .given .1) ∙ o .counted-in .ensures) (c .if2 .taken)
+    status-over _ _ _ (o .before .if1 .left) _ _ (sym (e .values .given .1) ∙ o .counted-in .ensures) (λ x. omega arith)
 
 returns-4 : tie.Need-returns-4
 returns-4 c =

@@ -1,10 +1,11 @@
 -- `contents::keep` meets its contract.
+use native.Mathlib.Omega.{arith}
 use Rattle.contents.proofs.Elements.{keep-below, keep-unknown, keep-names, keep-status, keep-result}
 use Rattle.contents.proofs.keep.Statement.{statement}
 use Rattle.contents.proofs.keep.Tie as tie
 
 returns : tie.Need-returns
-returns c = keep-below _ _ _ (c .if1 .taken)
+returns c = keep-below _ _ _ (omega arith)
 
 returns-2 : tie.Need-returns-2
 returns-2 c = keep-unknown _ _ _ (c .before .before .if2 .left) (c .before .if3 .left) (c .if4 .left)

@@ -1,9 +1,9 @@
 -- `contents::pass` meets its contract. The values left from the next place on end where all end.
-use Prim.Native.Nat.{_+_, _≤_}
+use Prim.Native.Nat.{_≤_}
 use native.Mathlib.Omega.{arith}
-use mathlib.Core.Path.{_≡_, refl, _∙_, subst}
+use mathlib.Core.Path.{_≡_, refl, sym, _∙_}
 use borrow.Author.Needs.{needs}
-use Rattle.contents.proofs.Lengths.{Found, found}
+use Rattle.contents.proofs.Lengths.{found}
 use Rattle.contents.proofs.Records.{endOf, pass-end, pass-short, pass-cut, pass-on}
 use Rattle.contents.proofs.pass.Statement.{statement}
 use Rattle.contents.proofs.pass.Tie as tie
@@ -13,12 +13,6 @@ Inv-loop s at to w n next₀ left₀ next left = (at ≤ next) × (next ≤ to) 
 
 abbrev μ-loop : tie.MeasureT-loop
 μ-loop s at to w n next₀ left₀ next left = left
-
--- what stands behind the name at the next place
-stood : (c : tie.After-sized-at Inv-loop μ-loop)
-    → Found (c .before .before .before .before .before .args .s .now) (c .before .before .before .loop .next + 2)
-    (c .before .before .before .before .before .args .to) (c .before .before .before .before .before .args .w) (c .sized-at .result)
-stood c = found _ _ _ _ (omega arith) (omega arith) _ (c .sized-at .ensures)
 
 loop-holds : tie.Need-loop-holds Inv-loop μ-loop
 loop-holds c = (omega arith, c .before .pre .0, refl)
@@ -44,7 +38,8 @@ enum-told c = search needs
 returns-2 : tie.Need-returns-2 Inv-loop μ-loop
 returns-2 c =
     let o = c .before .before in
-    pass-cut _ _ _ _ _ (omega (arith, o)) (omega (arith, o)) (omega (arith, o)) (subst (Found _ _ _ _) (c .enum-told .given .1) (stood o)) ∙ o .before .before .before .loop .inv .2
+    let f = found _ _ _ _ (omega (arith, o)) (omega (arith, o)) _ (sym (c .enum-told .given .1) ∙ o .sized-at .ensures) in
+    pass-cut _ _ _ _ _ (omega (arith, o)) (omega (arith, o)) (omega (arith, o)) f ∙ o .before .before .before .loop .inv .2
 
 sub-left : tie.Need-sub-left Inv-loop μ-loop
 sub-left c = search needs
@@ -55,7 +50,7 @@ loop-less c = omega arith
 loop-again : tie.Need-loop-again Inv-loop μ-loop
 loop-again c =
     let o = c .before .before .before in
-    let f = subst (Found _ _ _ _) (c .before .p .given .1) (stood o) in (
+    let f = found _ _ _ _ (omega (arith, o)) (omega (arith, o)) _ (sym (c .before .p .given .1) ∙ o .sized-at .ensures) in (
       omega (arith, f .1, f .2, o),
       f .3,
       pass-on _ _ _ _ _ (omega (arith, o)) (omega (arith, o)) _ (omega (arith, o)) f ∙ o .before .before .before .loop .inv .2,

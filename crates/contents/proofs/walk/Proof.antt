@@ -1,12 +1,12 @@
 -- `contents::walk` meets its contract. What is to be read from the place on is what was to be read behind the type.
-use Prim.Native.Nat.{_+_, _-_, _≤_}
+use Prim.Native.Nat.{_-_, _≤_}
 use native.Mathlib.Omega.{arith}
-use mathlib.Core.Path.{_≡_, refl, _∙_, subst}
+use mathlib.Core.Path.{_≡_, refl, sym, _∙_}
 use lib.ListN.{length, drop}
 use borrow.Author.Needs.{needs}
 use Rattle.meaning.specs.Capture.{elementsOf}
 use Rattle.contents.specs.Spans.{span, standing}
-use Rattle.contents.proofs.Lengths.{Found, found}
+use Rattle.contents.proofs.Lengths.{found}
 use Rattle.contents.proofs.Elements.{readFrom, walk-cut, walk-on, walked-cut, walked-all}
 use Rattle.contents.proofs.walk.Statement.{statement}
 use Rattle.contents.proofs.walk.Tie as tie
@@ -17,12 +17,6 @@ Inv-loop s k₀ at₀ k at =
 
 abbrev μ-loop : tie.MeasureT-loop
 μ-loop s k₀ at₀ k at = length s - at
-
--- what stands behind the identifier at the place
-stood : (c : tie.After-sized-at Inv-loop μ-loop)
-    → Found (c .before .before .before .before .before .before .args .s .now) (c .before .before .before .before .loop .at + 1)
-    (length (c .before .before .before .before .before .before .args .s .now)) (c .before .length-octets .result) (c .sized-at .result)
-stood c = found _ _ _ _ (omega arith) (omega arith) _ (c .sized-at .ensures)
 
 loop-holds : tie.Need-loop-holds Inv-loop μ-loop
 unfolding elementsOf
@@ -50,24 +44,26 @@ returns : tie.Need-returns Inv-loop μ-loop
 returns c =
     let o = c .before .before in
     let l = o .before .before .before .before in
+    let f = found _ _ _ _ (omega (arith, o)) (omega (arith, o)) _ (sym (c .enum-told .given .1) ∙ o .sized-at .ensures) in
     walked-cut _ (l .loop .k) (l .loop .at) (l .loop .inv .2)
-    (walk-cut _ _ _ _ (o .before .before .before .loop-test .taken) (o .before .length-octets .ensures .0) (subst (Found _ _ _ _) (c .enum-told .given .1) (stood o)))
+    (walk-cut _ _ _ _ (o .before .before .before .loop-test .taken) (o .before .length-octets .ensures .0) f)
 
 keep-requires : tie.Need-keep-requires Inv-loop μ-loop
 keep-requires c κs = search needs
 
 loop-less : tie.Need-loop-less Inv-loop μ-loop
 loop-less c =
-    let f = subst (Found _ _ _ _) (c .before .before .p .given .1) (stood (c .before .before .before .before)) in
+    let o = c .before .before .before .before in
+    let f = found _ _ _ _ (omega (arith, o)) (omega (arith, o)) _ (sym (c .before .before .p .given .1) ∙ o .sized-at .ensures) in
     omega (arith, f .1, f .2, f .3)
 
 loop-again : tie.Need-loop-again Inv-loop μ-loop
 loop-again c =
     let o = c .before .before .before .before in
     let l = o .before .before .before .before in
-    let f = subst (Found _ _ _ _) (c .before .before .p .given .1) (stood o) in (
+    let f = found _ _ _ _ (omega (arith, o)) (omega (arith, o)) _ (sym (c .before .before .p .given .1) ∙ o .sized-at .ensures) in (
       omega (arith, f .1, f .2),
-      f .3,
+      omega (arith, f .2, f .3),
       walk-on _ _ _ _ (o .before .before .before .loop-test .taken) (o .before .length-octets .ensures .0) _ _ f (c .keep .ensures) ∙ l .loop .inv .2,
     )
 
