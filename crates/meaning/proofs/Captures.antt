@@ -6,7 +6,7 @@ use mathlib.Core.Path.{_≡_, refl, sym, ap, _∙_}
 use mathlib.Core.Logic.{_⊎_, inl, inr}
 use mathlib.Core.Bool.{Bool, true, false, _||_, cond}
 use mathlib.Core.Option.{Option, none, some}
-use mathlib.Core.List.{List, [], _∷_, _++_, map}
+use mathlib.Core.List.{List, [], _∷_, _++_, map, append-nil}
 use lib.ListN.{length}
 use lib.Dec.{eqb, leb}
 use borrow.Author.Tests.{le-leb, lt-leb, eq-eqb, ne-eqb}
@@ -14,12 +14,17 @@ use Rattle.meaning.specs.Octets.{octet, at16, part, zeros}
 use Rattle.meaning.specs.Block.{asNumberFrom, asNumber}
 use Rattle.meaning.specs.Checks.{firstFailed, whenPassed}
 use Rattle.meaning.specs.Reply.{Held, Failed}
-use Rattle.meaning.specs.Capture.{Capture, capturing, noCapture, OneRecord, aName, aValue, aReadError, anUpdate, anUpdateError, aLongUpdate, inOrder, updateCause, readCause, lengthOctets, isReply, isNotification, isThere, contained, captureChecks, Captured, orNothing, capture, thenRead, sized, frontName, frontHeld, frontFailed, several, behindCount, untilEndIn, untilEnd, exactly, namesIn, statusIn, longsIn, resultIn, isRead, keeping, elementsIn, elementsOf, ofElement, ofElements, inReply, inNotification}
+use Rattle.meaning.specs.Capture.{Capture, capturing, noCapture, merged, OneRecord, aName, aValue, aReadError, anUpdate, anUpdateError, aLongUpdate, inOrder, updateCause, readCause, lengthOctets, isReply, isNotification, isThere, contained, captureChecks, Captured, orNothing, capture, thenRead, sized, frontName, frontHeld, frontFailed, several, behindCount, untilEndIn, untilEnd, exactly, namesIn, statusIn, longsIn, resultIn, isRead, keeping, elementsIn, elementsOf, ofElement, ofElements, inReply, inNotification}
 use Rattle.meaning.proofs.Lists.{Octets}
 use Rattle.meaning.proofs.Accepts.{Spelt, found-spelt}
 
 abbrev pub refusedWith : ℕ → Captured
 refusedWith n = record { number = n; records = noCapture }
+
+-- ---- joined to nothing, each kind is what it was: none goes to another
+
+pub merged-none : (c : Capture) → (merged c noCapture ≡ c) × (merged noCapture c ≡ c)
+merged-none c = (simp append-nil, refl)
 
 -- ---- numbers, in the order of RULES 20.4: five cases, of which each message is in one
 

@@ -104,14 +104,14 @@ fn declares(line: &str, name: &str, proof: bool) -> bool {
 fn stands(name: &str, path: &str) -> bool {
     let name = name.rsplit("::").next().unwrap();
     let path = format!("{ROOT}/{path}");
-    let folder = Path::new(&path).is_dir();
-    let files: Vec<PathBuf> = match fs::read_dir(&path) {
-        Ok(entries) => {
-            let left_out = fs::read_dir(path.replace("/must-fail", "/tried"));
-            let entries = entries.chain(left_out.into_iter().flatten());
-            entries.map(|e| e.unwrap().path()).collect()
-        }
-        Err(_) => vec![path.replace("/specs/", "/proofs/").into(), path.into()],
+    let folders = [path.clone(), path.replace("/must-fail", "/tried")];
+    let entries = folders.iter().flat_map(fs::read_dir).flatten();
+    let entries: Vec<PathBuf> = entries.map(|entry| entry.unwrap().path()).collect();
+    let folder = !entries.is_empty();
+    let files = if folder {
+        entries
+    } else {
+        vec![path.replace("/specs/", "/proofs/").into(), path.into()]
     };
     files.iter().any(|file| {
         let proof = file.extension().is_some_and(|e| e == "antt");
