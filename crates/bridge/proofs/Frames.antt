@@ -9,7 +9,7 @@ use Rattle.meaning.specs.Calls.{message}
 use Rattle.stdio.specs.Pieces.{needed}
 use Rattle.stdio.specs.Taking.{Piece, Between, pieceAt, wholeAt, goesOn, lineAt, next}
 use Rattle.stdio.proofs.Taking.{Joins, turn, cut-out}
-use Rattle.text.specs.Answers.{Port, Answers}
+use Rattle.answers.specs.Answers.{Port, Answers}
 use Rattle.bridge.specs.Frames.{outcomeOf, frames, port, Serves}
 use Rattle.bridge.specs.declared.Served.{Served}
 use Rattle.bridge.specs.declared.Served.the-variants.{Rest}

@@ -6,7 +6,7 @@ use mathlib.Core.List.{List}
 use lib.ListN.{length}
 use Rattle.meaning.specs.Calls.{Outcome, message}
 use Rattle.stdio.specs.Taking.{Piece, Program, Between, taken, Wanting}
-use Rattle.text.specs.Answers.{lineOf, Port}
+use Rattle.answers.specs.Answers.{lineOf, Port}
 use Rattle.bridge.specs.declared.Served.{Served}
 use Rattle.bridge.specs.declared.Served.the-variants.{Rest, Closed}
 

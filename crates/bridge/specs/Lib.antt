@@ -1,2 +1,2 @@
--- What the contracts of `bridge` cite beside `meaning`, `text` and `stdio`.
+-- What the contracts of `bridge` cite beside `meaning`, `answers` and `stdio`.
 pub mod Frames

@@ -48,7 +48,7 @@ fn answer_frames(
             return Batch { from: next, at };
         };
         let outcome = endpoint::message(memory, &held[next + HEAD..end], room);
-        at = text::write_outcome(out, at, outcome, room);
+        at = answers::write_outcome(out, at, outcome, room);
         next = end;
     }
     Batch { from: next, at }

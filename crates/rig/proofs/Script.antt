@@ -14,7 +14,7 @@ use Rattle.endpoint.proofs.Exits.{fresh-does}
 use Rattle.stdio.specs.Pieces.{needed, cutLine}
 use Rattle.stdio.specs.Taking.{Piece, Between, pieceAt, wholeAt, goesOn, lineAt, next, taken, lines, Faulty}
 use Rattle.stdio.proofs.Taking.{Joins, turn, cut-off, cut-out}
-use Rattle.text.specs.Answers.{Port}
+use Rattle.answers.specs.Answers.{Port}
 use Rattle.script.specs.Takes.{Lends, Takes}
 use Rattle.script.proofs.Lend.{front-is}
 use Rattle.script.specs.declared.Lent.{Lent}

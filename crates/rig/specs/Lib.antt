@@ -1,2 +1,2 @@
--- What the contracts of `rig` cite beside `meaning`, `text`, `stdio` and `script`.
+-- What the contracts of `rig` cite beside `meaning`, `answers`, `stdio` and `script`.
 pub mod Script

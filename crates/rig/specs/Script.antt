@@ -4,7 +4,7 @@ use mathlib.Core.Path.{_≡_}
 use mathlib.Core.List.{List}
 use lib.ListN.{length, take}
 use Rattle.stdio.specs.Taking.{Piece, Program, Between, taken, Faulty as Taking·Faulty, Wanting}
-use Rattle.text.specs.Answers.{Port}
+use Rattle.answers.specs.Answers.{Port}
 use Rattle.script.specs.Instructions.{Effect, bodyRight, effect}
 use Rattle.script.specs.Takes.{Lends}
 use Rattle.script.specs.declared.Lent.{Lent}

@@ -11,7 +11,7 @@ use Rattle.meaning.specs.Delay.{lowFirst, delay}
 use Rattle.meaning.specs.Calls.{Outcome}
 use Rattle.octets.specs.Writing.{Wrote}
 use Rattle.octets.proofs.Splices.{splice-front}
-use Rattle.text.specs.Answers.{Answers}
+use Rattle.answers.specs.Answers.{Answers}
 use Rattle.text.specs.Lines.{octetsLine, lentLine}
 use Rattle.text.proofs.Writes.{octets-short, lent-short}
 use Rattle.script.specs.Instructions.{Effect, roomLength, anew, printed, answered}

@@ -8,7 +8,7 @@ use Rattle.meaning.specs.Octets.{at16, at32}
 use Rattle.meaning.specs.Delay.{delay}
 use Rattle.meaning.specs.Calls.{Outcome, makeFresh, message, localValue, build, expiry}
 use Rattle.text.specs.Lines.{octetsLine, lentLine}
-use Rattle.text.specs.Answers.{lineOf}
+use Rattle.answers.specs.Answers.{lineOf}
 
 -- the length of a body, by the instruction's code; no other code is known
 unfoldable pub bodyRight : ℕ → ℕ → Bool

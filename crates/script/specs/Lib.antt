@@ -1,3 +1,3 @@
--- What the contracts of `script` cite beside `meaning`, `endpoint` and `text`.
+-- What the contracts of `script` cite beside `meaning`, `endpoint`, `text` and `answers`.
 pub mod Instructions
 pub mod Takes

@@ -158,6 +158,6 @@ pub fn take_instruction(
     let m = lent.memory;
     let n = room_for(room, lent.room, code, body);
     let outcome = call(&mut memory[..m], &mut room[..n], code, body);
-    let end = text::write_outcome(out, at, outcome, &room[..n]);
+    let end = answers::write_outcome(out, at, outcome, &room[..n]);
     Took::Line(end, Lent { memory: m, room: n })
 }

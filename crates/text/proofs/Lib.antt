@@ -1,3 +1,2 @@
--- Laws of the text that the functions write, and of a call's answers.
+-- Laws of the text that the functions write.
 pub mod Writes
-pub mod Answered

@@ -1,3 +1,2 @@
--- Lines of text, and those of a call's outcomes.
+-- Lines of text.
 pub mod Lines
-pub mod Answers

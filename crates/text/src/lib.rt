@@ -1,12 +1,10 @@
-// Lines of text, written at a place of a room: also those of a call's outcomes. Each function returns the place after what
-// it wrote, and says by a definition of `Lines` or `Answers` what every octet of the room holds afterwards.
+// Lines of text, written at a place of a room. Each function returns the place after what it wrote, and says by a
+// definition of `Lines` what every octet of the room holds afterwards.
 ghost use Prim.Native.Nat.{_+_, _≤_, _<_};
 ghost use mathlib.Core.Path.{_≡_};
 ghost use lib.ListN.{length};
 ghost use Rattle.octets.specs.Writing.{Wrote};
-ghost use Rattle.endpoint.specs.Outcomes.{lengthOf};
 ghost use Rattle.text.specs.Lines.{digit as Lines·digit, hex, decimal, shownOctets, octetsLine, line, longDecimal, lentLine};
-ghost use Rattle.text.specs.Answers.{answerLine};
 
 // The character of a digit: 39 more for a letter, taken from all bits of an octet or from none. With a quotient by 10 or a
 // test, LLVM puts branches into the loop over it.
@@ -78,15 +76,6 @@ pub fn write_line(out: &mut [u8], at: usize, number: usize, reply: &[u8]) -> usi
     let space = write_decimal(out, at, number);
     out[space] = b' ';
     write_octets(out, space + 1, reply)
-}
-
-// The line of an outcome: its number, and what its call wrote at the start of a room.
-pub fn write_outcome(out: &mut [u8], at: usize, outcome: endpoint::Outcome, room: &[u8]) -> usize
-    requires { ⌜ (lengthOf outcome ≤ length (now room)) × (at + (length (now room) + length (now room) + 5) ≤ length (now out)) ⌝ }
-    ensures { λ r. ⌜ Wrote (now (out .entry)) at (answerLine outcome (now (room .entry))) r (now (out .exit)) ⌝ }
-{
-    let n = endpoint::written(outcome);
-    write_line(out, at, endpoint::number(outcome), &room[..n])
 }
 
 // A number under 10,000.

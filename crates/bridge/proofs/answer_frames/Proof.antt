@@ -10,7 +10,7 @@ use Rattle.meaning.proofs.Refused.{message-room}
 use Rattle.stdio.specs.Pieces.{needed}
 use Rattle.stdio.specs.Taking.{wholeAt}
 use Rattle.stdio.proofs.Taking.{Joins, found-whole, found-more}
-use Rattle.text.proofs.Answered.{answerable, answered}
+use Rattle.answers.proofs.Answered.{answerable, answered}
 use Rattle.bridge.specs.Frames.{frames, port}
 use Rattle.bridge.proofs.Frames.{frame-turn}
 use Rattle.bridge.proofs.answer_frames.Statement.{statement}

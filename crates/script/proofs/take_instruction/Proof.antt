@@ -8,7 +8,7 @@ use lib.ListN.{length, take, drop}
 use lib.Seq.{length-take-le, take-at}
 use borrow.Author.Needs.{needs}
 use Rattle.meaning.proofs.Tests.{denied, affirmed}
-use Rattle.text.proofs.Answered.{answerable, answered}
+use Rattle.answers.proofs.Answered.{answerable, answered}
 use Rattle.script.specs.Instructions.{bodyRight, called}
 use Rattle.script.specs.Instructions as instructions
 use Rattle.script.proofs.Codes.{call-row, called-room}

@@ -11,9 +11,9 @@ use Rattle.endpoint.specs.Outcomes.{numberOf, lengthOf, Gives}
 use Rattle.endpoint.specs.declared.Outcome.{Outcome}
 use Rattle.endpoint.specs.declared.Outcome.the-variants.{Done, MemoryUnsound, MessageEmpty, MessageTooLong, TypeUnknown, LengthWrong, OperationMalformed, ReplyDoesNotFit, Idle, NothingPending, AlreadyWaiting, NotificationRoomTooSmall, NotPermitted, SendAgain, GivenUp}
 use Rattle.endpoint.proofs.OneOutcome.{found}
 use Rattle.text.specs.Lines.{line}
-use Rattle.text.specs.Answers.{lineOf, answerLine, Answers}
+use Rattle.answers.specs.Answers.{lineOf, answerLine, Answers}
 use Rattle.text.proofs.Writes.{line-short}
 
 pub number-short : (o : Outcome) → numberOf o < 100
 unfolding numberOf

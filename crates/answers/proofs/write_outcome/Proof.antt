@@ -1,4 +1,4 @@
--- `text::write_outcome` meets its contract.
+-- `answers::write_outcome` meets its contract.
 use Prim.Native.Nat.{ℕ, _+_}
 use native.Mathlib.Omega.{arith}
 use mathlib.Core.Path.{sym, ap, _∙_}
@@ -7,9 +7,9 @@ use lib.ListN.{length}
 use lib.Seq.{length-take-le}
 use borrow.Author.Needs.{needs}
 use Rattle.meaning.specs.Octets.{splice}
-use Rattle.text.proofs.Answered.{number-short, answer-is}
-use Rattle.text.proofs.write_outcome.Statement.{statement}
-use Rattle.text.proofs.write_outcome.Tie as tie
+use Rattle.answers.proofs.Answered.{number-short, answer-is}
+use Rattle.answers.proofs.write_outcome.Statement.{statement}
+use Rattle.answers.proofs.write_outcome.Tie as tie
 
 written-requires : tie.Need-written-requires
 written-requires c κs = search needs

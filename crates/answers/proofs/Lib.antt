@@ -1,0 +1,2 @@
+-- Laws of a call's answers.
+pub mod Answered

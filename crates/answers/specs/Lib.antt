@@ -1,0 +1,2 @@
+-- The line of a call's outcome.
+pub mod Answers
