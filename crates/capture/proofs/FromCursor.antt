@@ -10,6 +10,7 @@ use lib.ListN.{length}
 use Rattle.meaning.specs.Octets.{part}
 use Rattle.meaning.specs.Reply.{Held, Failed}
 use Rattle.meaning.specs.Capture.{Capture, capturing, OneRecord, aName, aValue, aReadError, anUpdate, anUpdateError, aLongUpdate, inOrder, frontName, frontHeld, frontFailed, readCause, updateCause}
+use Rattle.meaning.proofs.Lists.{length-part}
 use Rattle.contents.specs.Spans.{span}
 use Rattle.contents.specs.declared.Span.{Span}
 use Rattle.contents.proofs.Between.{between}
@@ -40,6 +41,10 @@ pub record Holds (s : List ℕ) (c : Cursor) (r : Capture) : Type 0 where
 pub data Next (s : List ℕ) (c : Cursor) (r : Capture) : Type 0 where
   ends : handedAt s c ≡ Handed.End → inOrder r ≡ [] → Next s c r
   hands : (one : Record) (c′ : Cursor) (r′ : Capture) → handedAt s c ≡ Handed.Record one c′ → inOrder r ≡ recordOf s one ∷ inOrder r′ → Holds s c′ r′ → Inside s one → Next s c r
+
+-- as many octets as a record tells of its value stand in the message at the place that it tells
+pub inside-whole : (s : List ℕ) (n from size : ℕ) → (Inside s (Value n from size) → length (part s from size) ≡ size) × (Inside s (Update n from size) → length (part s from size) ≡ size) × (Inside s (LongUpdate n from size) → length (part s from size) ≡ size)
+inside-whole s n from size = (length-part s from size, length-part s from size, length-part s from size)
 
 -- the first record of a span that has octets left, put into a cursor
 module _ {A : Type 0} {one : List ℕ → Option (A × List ℕ)} {P : A → ℕ → Type 0} {s : List ℕ} {p : Span} {l : List A} (f : First one P s p l) (make : ℕ → A → Record) (put : Span → Cursor) where

@@ -9,7 +9,7 @@ use lib.Dec.{leb, ltb, eqb}
 use borrow.Author.Tests.{leb-true, ltb-true, ltb-false}
 use Rattle.meaning.specs.Octets.{below, be16}
 use Rattle.meaning.specs.Table.{place}
-use Rattle.meaning.specs.Reply.{Held, Failed}
+use Rattle.meaning.specs.Reply.{Held, Failed, heldOctets, shortOctets, failedOctets}
 use Rattle.meaning.specs.Capture.{OneRecord, aName, aValue, aReadError, anUpdate, anUpdateError, aLongUpdate}
 use Rattle.meaning.proofs.Tests.{below-at}
 use Rattle.octets.specs.Letters.{letters}
@@ -58,6 +58,17 @@ held-short kind h = simp length-append (omega (arith, started-short kind (h .nam
 failed-short : (kind : List ℕ) (f : Failed) → length (failedLine kind f) ≤ length kind + 53
 unfolding failedLine letters hex
 failed-short kind f = simp length-append (omega (arith, started-short kind (f .name), cause-short (f .cause)))
+
+-- a record takes as many octets in a message as it is spelt with there
+pub size-spelt : (n : ℕ) (h : Held) (f : Failed)
+    → (recordSize (aName n) ≡ length (be16 n))
+    × (recordSize (aValue h) ≡ length (heldOctets h))
+    × (recordSize (aReadError f) ≡ length (failedOctets f))
+    × (recordSize (anUpdate h) ≡ length (shortOctets h))
+    × (recordSize (anUpdateError f) ≡ length (failedOctets f))
+    × (recordSize (aLongUpdate h) ≡ length (heldOctets h))
+unfolding recordSize heldOctets shortOctets failedOctets be16
+size-spelt n h f = (refl, omega arith, refl, omega arith, refl, omega arith)
 
 -- a line has at most 24 octets for each that its record takes in the message
 pub line-bounded : (r : OneRecord) → length (recordLine r) ≤ 24 * recordSize r
