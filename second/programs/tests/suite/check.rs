@@ -28,9 +28,9 @@ fn seconds() -> u64 {
 
 /// What is compared: the kind of streams, the program, and how long each stream is.
 const COMPARED: [[&str; 3]; 3] = [
+    ["captures", "desk", "100"],
     ["frames", "bridge", "200"],
     ["script", "rig", "200"],
-    ["captures", "desk", "100"],
 ];
 
 /// Asserts that a command has seeds that follow from the time, between these seconds.
@@ -115,7 +115,7 @@ fn what_cannot_be_compared_fails() {
     let place = Place::fresh();
     fs::write(place.kit("unsaid"), "").unwrap();
     let told =
-        "check: 'rt ci' has ended, and target/log does not say that it has built all programs\n";
+        "check: 'rt ci' has ended, and target/log does not say that it has built 'desk'\n";
     place.assert_shell("./check", 1, &format!("{told}{LAST}{DIFFER}"), "");
     // A word of an earlier run is not taken for one of this.
     place.assert_shell(
@@ -148,6 +148,23 @@ fn nothing_is_compared_where_a_proof_fails() {
     let place = Place::fresh();
     fs::write(place.kit("fault"), "").unwrap();
     place.assert_shell("./check", 1, "1 passed, 2 failed\n", "");
+}
+
+#[test]
+fn what_was_built_before_a_proof_failed_is_compared() {
+    let place = Place::fresh();
+    fs::write(place.kit("fault"), "bridge\n").unwrap();
+    let last = "1 passed, 2 failed\n";
+    let (status, out, _) = place.shell("./check");
+    let told = comparisons(out.strip_suffix(last).unwrap());
+    assert_eq!((status, told.len()), (1, 1), "{out}");
+    assert!(told[0].0.contains(" captures ") && agrees(told[0].1), "{out}");
+    let wrong = place.kit("programs/desk");
+    fs::remove_file(&wrong).unwrap();
+    symlink(RIG, &wrong).unwrap();
+    let (status, out, _) = place.shell("./check");
+    assert_eq!(status, 1);
+    assert!(out.ends_with(&format!("{last}{DIFFER}")), "{out}");
 }
 
 /// Whether a process runs that has been started by a check of this place, with this word.

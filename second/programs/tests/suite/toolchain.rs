@@ -21,7 +21,7 @@ const COMPARE: &str = concat!(env!("CARGO_MANIFEST_DIR"), "/tests/tools/compare"
 /// What the starters call. Nothing else is on the PATH, and so no toolchain but the one here.
 const TOOLS: &str =
     "bash sh cat chmod cmp cp cut dirname env find flock grep head ln mkdir mktemp \
-                     mv printf ps readlink realpath rm sed setsid sleep sort tail touch tr";
+                     mv nice printf ps readlink realpath rm sed setsid sleep sort tail touch tr";
 const CRATES: &str = "# NAME: crates below it\nlow: bytes\nmid: low\nbridge: mid low io\n\
                       rig: mid io\ndesk: mid io\napart: low\n";
 /// What the sample of three frames is answered with.
