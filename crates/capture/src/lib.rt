@@ -1,7 +1,6 @@
 // Captured messages, replies and notifications, read (RULES 20): `first` says whether a message is accepted and hands out its
 // first record, `next` each further one. Values stay in the message; a record tells where. All octets may be lent and every
 // cursor passed, also one that another message gave: what is handed out then is what the definition finds in its spans.
-
 ghost use Prim.Native.Nat.{_≤_, _<_};
 ghost use mathlib.Core.Path.{_≡_};
 ghost use lib.ListN.{length};
