@@ -5,8 +5,7 @@ use capture::Record;
 ghost use Prim.Native.Nat.{_+_, _*_, _≤_};
 ghost use mathlib.Core.Path.{_≡_};
 ghost use lib.ListN.{length};
-ghost use Rattle.meaning.specs.Octets.{part, flat};
-ghost use Rattle.meaning.specs.Capture.{aValue, anUpdate, aLongUpdate};
+ghost use Rattle.meaning.specs.Octets.{flat};
 ghost use Rattle.octets.specs.Writing.{Wrote};
 ghost use Rattle.words.specs.Lines.{recordLine, messageLines, recordSize};
 ghost use Rattle.capture.specs.Handing.{recordOf, Inside};
@@ -16,52 +15,6 @@ ghost use Rattle.telling.specs.Remaining.{headLine, sizes, remaining, Re
 // message has; and the first line.
 pub const LINES: usize = 24 * wire::REPLY_MOST + 9;
 
-// The line of a record whose value stands in the message.
-fn write_value(
-    out: &mut [u8],
-    at: usize,
-    message: &[u8],
-    name: usize,
-    from: usize,
-    size: usize,
-) -> usize
-    requires { ⌜ (from + size ≤ length (now message)) × (at + (size + size + 45) ≤ length (now out)) ⌝ }
-    ensures { λ r. ⌜ Wrote (now (out .entry)) at (recordLine (aValue (record { name = name; value = part (now (message .entry)) from size }))) r (now (out .exit)) ⌝ }
-{
-    let to = from + size;
-    words::write_value(out, at, name, &message[from..to])
-}
-
-fn write_update(
-    out: &mut [u8],
-    at: usize,
-    message: &[u8],
-    name: usize,
-    from: usize,
-    size: usize,
-) -> usize
-    requires { ⌜ (from + size ≤ length (now message)) × (at + (size + size + 46) ≤ length (now out)) ⌝ }
-    ensures { λ r. ⌜ Wrote (now (out .entry)) at (recordLine (anUpdate (record { name = name; value = part (now (message .entry)) from size }))) r (now (out .exit)) ⌝ }
-{
-    let to = from + size;
-    words::write_update(out, at, name, &message[from..to])
-}
-
-fn write_long_update(
-    out: &mut [u8],
-    at: usize,
-    message: &[u8],
-    name: usize,
-    from: usize,
-    size: usize,
-) -> usize
-    requires { ⌜ (from + size ≤ length (now message)) × (at + (size + size + 51) ≤ length (now out)) ⌝ }
-    ensures { λ r. ⌜ Wrote (now (out .entry)) at (recordLine (aLongUpdate (record { name = name; value = part (now (message .entry)) from size }))) r (now (out .exit)) ⌝ }
-{
-    let to = from + size;
-    words::write_long_update(out, at, name, &message[from..to])
-}
-
 // The line of a record.
 fn write_record(out: &mut [u8], at: usize, message: &[u8], told: Record) -> usize
     requires { ⌜ Inside (now message) told × (at + 24 * recordSize (recordOf (now message) told) ≤ length (now out)) ⌝ }
@@ -69,12 +22,12 @@ fn write_record(out: &mut [u8], at: usize, message: &[u8], told: Record) -> usiz
 {
     match told {
         Record::Name(name) => words::write_name(out, at, name),
-        Record::Value(name, from, size) => write_value(out, at, message, name, from, size),
+        Record::Value(name, from, size) => words::write_value(out, at, message, name, from, size),
         Record::ReadError(name, cause) => words::write_read_error(out, at, name, cause),
-        Record::Update(name, from, size) => write_update(out, at, message, name, from, size),
+        Record::Update(name, from, size) => words::write_update(out, at, message, name, from, size),
         Record::UpdateError(name, cause) => words::write_update_error(out, at, name, cause),
         Record::LongUpdate(name, from, size) => {
-            write_long_update(out, at, message, name, from, size)
+            words::write_long_update(out, at, message, name, from, size)
         }
     }
 }

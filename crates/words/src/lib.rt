@@ -2,6 +2,7 @@
 // a place of a room, returns the place after what it wrote, and says by a definition what every octet holds afterwards.
 ghost use Prim.Native.Nat.{_+_, _≤_};
 ghost use lib.ListN.{length};
+ghost use Rattle.meaning.specs.Octets.{part};
 ghost use Rattle.octets.specs.Writing.{Wrote};
 ghost use Rattle.meaning.specs.Capture.{aName, aValue, aReadError, anUpdate, anUpdateError, aLongUpdate};
 ghost use Rattle.words.specs.Words.{wordAt, word, causeWord};
@@ -85,35 +86,65 @@ pub fn write_name(out: &mut [u8], at: usize, name: usize) -> usize
     end + 1
 }
 
-// A name and a value.
-fn write_held(out: &mut [u8], at: usize, kind: &[u8], name: usize, value: &[u8]) -> usize
-    requires { ⌜ at + (length (now kind) + (length (now value) + length (now value) + 37)) ≤ length (now out) ⌝ }
-    ensures { λ r. ⌜ Wrote (now (out .entry)) at (heldLine (now (kind .entry)) (record { name = name; value = now (value .entry) })) r (now (out .exit)) ⌝ }
+// A name and a value, which stands in the message that it was captured in.
+fn write_held(
+    out: &mut [u8],
+    at: usize,
+    kind: &[u8],
+    message: &[u8],
+    name: usize,
+    from: usize,
+    size: usize,
+) -> usize
+    requires { ⌜ (from + size ≤ length (now message)) × (at + (length (now kind) + (size + size + 37)) ≤ length (now out)) ⌝ }
+    ensures { λ r. ⌜ Wrote (now (out .entry)) at (heldLine (now (kind .entry)) (record { name = name; value = part (now (message .entry)) from size })) r (now (out .exit)) ⌝ }
 {
     let end = write_start(out, at, kind, name);
     out[end] = b' ';
-    text::write_octets(out, end + 1, value)
+    let to = from + size;
+    text::write_octets(out, end + 1, &message[from..to])
 }
 
-pub fn write_value(out: &mut [u8], at: usize, name: usize, value: &[u8]) -> usize
-    requires { ⌜ at + (length (now value) + length (now value) + 45) ≤ length (now out) ⌝ }
-    ensures { λ r. ⌜ Wrote (now (out .entry)) at (recordLine (aValue (record { name = name; value = now (value .entry) }))) r (now (out .exit)) ⌝ }
+pub fn write_value(
+    out: &mut [u8],
+    at: usize,
+    message: &[u8],
+    name: usize,
+    from: usize,
+    size: usize,
+) -> usize
+    requires { ⌜ (from + size ≤ length (now message)) × (at + (size + size + 45) ≤ length (now out)) ⌝ }
+    ensures { λ r. ⌜ Wrote (now (out .entry)) at (recordLine (aValue (record { name = name; value = part (now (message .entry)) from size }))) r (now (out .exit)) ⌝ }
 {
-    write_held(out, at, b"  value ", name, value)
+    write_held(out, at, b"  value ", message, name, from, size)
 }
 
-pub fn write_update(out: &mut [u8], at: usize, name: usize, value: &[u8]) -> usize
-    requires { ⌜ at + (length (now value) + length (now value) + 46) ≤ length (now out) ⌝ }
-    ensures { λ r. ⌜ Wrote (now (out .entry)) at (recordLine (anUpdate (record { name = name; value = now (value .entry) }))) r (now (out .exit)) ⌝ }
+pub fn write_update(
+    out: &mut [u8],
+    at: usize,
+    message: &[u8],
+    name: usize,
+    from: usize,
+    size: usize,
+) -> usize
+    requires { ⌜ (from + size ≤ length (now message)) × (at + (size + size + 46) ≤ length (now out)) ⌝ }
+    ensures { λ r. ⌜ Wrote (now (out .entry)) at (recordLine (anUpdate (record { name = name; value = part (now (message .entry)) from size }))) r (now (out .exit)) ⌝ }
 {
-    write_held(out, at, b"  update ", name, value)
+    write_held(out, at, b"  update ", message, name, from, size)
 }
 
-pub fn write_long_update(out: &mut [u8], at: usize, name: usize, value: &[u8]) -> usize
-    requires { ⌜ at + (length (now value) + length (now value) + 51) ≤ length (now out) ⌝ }
-    ensures { λ r. ⌜ Wrote (now (out .entry)) at (recordLine (aLongUpdate (record { name = name; value = now (value .entry) }))) r (now (out .exit)) ⌝ }
+pub fn write_long_update(
+    out: &mut [u8],
+    at: usize,
+    message: &[u8],
+    name: usize,
+    from: usize,
+    size: usize,
+) -> usize
+    requires { ⌜ (from + size ≤ length (now message)) × (at + (size + size + 51) ≤ length (now out)) ⌝ }
+    ensures { λ r. ⌜ Wrote (now (out .entry)) at (recordLine (aLongUpdate (record { name = name; value = part (now (message .entry)) from size }))) r (now (out .exit)) ⌝ }
 {
-    write_held(out, at, b"  long-update ", name, value)
+    write_held(out, at, b"  long-update ", message, name, from, size)
 }
 
 // A name and a cause.

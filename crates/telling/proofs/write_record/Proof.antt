@@ -6,9 +6,9 @@ use Rattle.telling.proofs.write_record.Statement.{statement}
 use Rattle.telling.proofs.write_record.Tie as tie
 use Rattle.telling.proofs.write_record.Reads as reads
 use Rattle.telling.proofs.write_record.Lts as lts
-use Rattle.telling.proofs.write_long_update.Reads as write-long-update-reads
-use Rattle.telling.proofs.write_update.Reads as write-update-reads
-use Rattle.telling.proofs.write_value.Reads as write-value-reads
+use Rattle.words.proofs.write_long_update.Reads as write-long-update-reads
+use Rattle.words.proofs.write_update.Reads as write-update-reads
+use Rattle.words.proofs.write_value.Reads as write-value-reads
 use Rattle.words.proofs.write_name.Reads as write-name-reads
 use Rattle.words.proofs.write_read_error.Reads as write-read-error-reads
 use Rattle.words.proofs.write_update_error.Reads as write-update-error-reads
