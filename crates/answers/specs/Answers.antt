@@ -5,9 +5,9 @@ use mathlib.Core.List.{List}
 use lib.ListN.{take}
 use Rattle.meaning.specs.Calls as calls
 use Rattle.octets.specs.Writing.{Wrote}
-use Rattle.endpoint.specs.Outcomes.{numberOf, lengthOf}
+use Rattle.endpoint.specs.Outcomes.{numberOf, lengthOf, positionOf}
 use Rattle.endpoint.specs.declared.Outcome.{Outcome}
-use Rattle.text.specs.Lines.{line}
+use Rattle.text.specs.Lines.{line, fullLine}
 
 -- the number, a space, what was written in hex or `-`
 unfoldable pub lineOf : calls.Outcome → List ℕ
@@ -16,6 +16,13 @@ lineOf o = line (o .number) (o .written)
 -- the same line, what was written found at the start of a room
 unfoldable pub answerLine : Outcome → List ℕ → List ℕ
 answerLine r room = line (numberOf r) (take (lengthOf r) room)
+
+-- told in full: the position stands between the number and what was written
+unfoldable pub fullOf : calls.Outcome → List ℕ
+fullOf o = fullLine (o .number) (o .position) (o .written)
+
+unfoldable pub fullAnswer : Outcome → List ℕ → List ℕ
+fullAnswer r room = fullLine (numberOf r) (positionOf r) (take (lengthOf r) room)
 
 -- what a program lends to its calls, and keeps from one to the next
 pub record Port : Type 0 where

@@ -38,7 +38,7 @@ under-start m list copy s w e = record { inside = omega arith; isSound = rw e s;
 no-more : (list : List ℕ) (at : ℕ) (h : Handed) → isSome (parse (drop at list)) ≡ true → HandsOut list at h → OneOf (1 ∷ 2 ∷ []) (tagOf the-type h) → rest list at ≡ []
 no-more list at (Operation o next) w e (inl q) = absurd (omega (arith, q))
 no-more list at (Operation o next) w e (inr q) = absurd (omega (arith, q))
-no-more list at Malformed w e t = absurd (false≢true (sym (ap isSome (turn-malformed list at (e .0))) ∙ w))
+no-more list at (Malformed p) w e t = absurd (false≢true (sym (ap isSome (turn-malformed list at p (e .0))) ∙ w))
 no-more list at End w e t = ap orNone (turn-end list at (e .0))
 
 module _ (m list copy : List ℕ) (at : ℕ) (u : Under m list copy at) (h : Handed) (hands : HandsOut list at h) where

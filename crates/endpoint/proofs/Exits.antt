@@ -13,30 +13,36 @@ use Rattle.meaning.specs.Octets.{nonempty, octet, at16, part, implies, every}
 use Rattle.meaning.specs.Checks.{firstFailed, whenPassed}
 use Rattle.meaning.specs.Table.{place, entryCount, memoryLength}
 use Rattle.meaning.specs.Memory.{waiting, expiries, setTimer, sound, fresh}
-use Rattle.meaning.specs.Operation.{Op, parse, isSome, orNone}
+use Rattle.meaning.specs.Operation.{Op, parse, isSome, orNone, breakOf}
 use Rattle.meaning.specs.Step.{after}
 use Rattle.meaning.specs.Reply.{complete}
-use Rattle.meaning.specs.Calls.{localPermitted, localMemory, localChecks, localValue, reports, buildChecks, build, makeFresh, done, numberOnly, call, isCommand, isAcknowledgement, lengthField, operations, opsOf, records, carriedOut, acknowledged, handled, fits, messageChecks, message}
+use Rattle.meaning.specs.Calls.{localPermitted, localMemory, localChecks, localValue, reports, buildChecks, build, makeFresh, done, numberOnly, call, isCommand, isAcknowledgement, lengthField, operations, opsOf, records, carriedOut, acknowledged, handled, fits, messageChecks, located, message}
 use Rattle.meaning.specs.Calls as calls
+use Rattle.meaning.proofs.Checked.{unlocated}
 use Rattle.meaning.proofs.Numbers.{Taken, Measured, length-right}
 use Rattle.octets.proofs.Splices.{part-is}
 use Rattle.endpoint.specs.declared.Outcome.{Outcome}
 use Rattle.endpoint.specs.declared.Outcome.the-variants.{Done, MemoryUnsound, MessageEmpty, MessageTooLong, TypeUnknown, LengthWrong, OperationMalformed, ReplyDoesNotFit, Idle, NothingPending, AlreadyWaiting, NotificationRoomTooSmall, NotPermitted, SendAgain, GivenUp}
-use Rattle.endpoint.specs.Outcomes.{numberOf, lengthOf, Gives, reply, command, acknowledgement}
+use Rattle.endpoint.specs.Outcomes.{numberOf, lengthOf, positionOf, Gives, reply, command, acknowledgement}
 use Rattle.endpoint.proofs.Outcome.{the-type}
 
 -- a refusal: the number, and nothing changed
-pub gives-number : (m room : List ℕ) (n : ℕ) (r : Outcome) {o : calls.Outcome} → o ≡ numberOnly n m room → numberOf r ≡ n → lengthOf r ≡ 0 → Gives o r m room
-gives-number m room n r e a b = rw e (record { number = a; written = b; memoryIs = refl; roomIs = refl })
+pub gives-number : (m room : List ℕ) (n : ℕ) (r : Outcome) {o : calls.Outcome} → o ≡ numberOnly n m room → numberOf r ≡ n → lengthOf r ≡ 0 → positionOf r ≡ 0 → Gives o r m room
+gives-number m room n r e a b p = rw e (record { number = a; written = b; position = p; memoryIs = refl; roomIs = refl })
+
+-- and where it broke
+pub gives-broken : (m room : List ℕ) (p : ℕ) {o : calls.Outcome} → o ≡ located p (numberOnly 6 m room) → Gives o (OperationMalformed p) m room
+unfolding numberOf lengthOf positionOf
+gives-broken m room p e = rw e (record { number = refl; written = refl; position = refl; memoryIs = refl; roomIs = refl })
 
 pub gives-done : (w m room : List ℕ) (n : ℕ) {o : calls.Outcome} {m′ room′ : List ℕ} → o ≡ done w m room → n ≡ length w → m′ ≡ m → room′ ≡ w ++ drop (length w) room
     → Gives o (Done n) m′ room′
-unfolding numberOf lengthOf
-gives-done w m room n e a b c = rw e (record { number = refl; written = a; memoryIs = b; roomIs = c })
+unfolding numberOf lengthOf positionOf
+gives-done w m room n e a b c = rw e (record { number = refl; written = a; position = refl; memoryIs = b; roomIs = c })
 
 -- a call without a room: nothing written, and the memory that it leaves
-pub gives-left : (m : List ℕ) (n : ℕ) (r : Outcome) {o : calls.Outcome} {m′ : List ℕ} → o ≡ numberOnly n m [] → numberOf r ≡ n → lengthOf r ≡ 0 → m′ ≡ m → Gives o r m′ []
-gives-left m n r e a b c = rw e (record { number = a; written = b; memoryIs = c; roomIs = refl })
+pub gives-left : (m : List ℕ) (n : ℕ) (r : Outcome) {o : calls.Outcome} {m′ : List ℕ} → o ≡ numberOnly n m [] → numberOf r ≡ n → lengthOf r ≡ 0 → positionOf r ≡ 0 → m′ ≡ m → Gives o r m′ []
+gives-left m n r e a b p c = rw e (record { number = a; written = b; position = p; memoryIs = c; roomIs = refl })
 
 -- ---- a whole list of operations
 
@@ -80,12 +86,16 @@ not-whole (some os) e = absurd (false≢true (sym e))
 module _ (m s room : List ℕ) where
   pub message-acknowledgement : Taken m s → octet s 0 ≡ 4 → message m s room ≡ acknowledgement m room
   unfolding message messageChecks acknowledgement call firstFailed isCommand isAcknowledgement implies handled
-  message-acknowledgement t e = simp (t .isSound, le-leb 1 (length s) (t .nonzero), le-leb (length s) 2048 (t .short), e)
+  message-acknowledgement t e =
+      simp (t .isSound, le-leb 1 (length s) (t .nonzero), le-leb (length s) 2048 (t .short), e)
+      (unlocated (breakOf (operations s)) true (waiting m) (fits (length room) (acknowledged m)) (acknowledged m .reply) (acknowledged m .memory) m room)
 
   pub message-command : Measured m s → isSome (parse (operations s)) ≡ true → message m s room ≡ command m (operations s) room
   unfolding message messageChecks command reply call firstFailed isCommand isAcknowledgement implies handled opsOf
   message-command l w =
+      let d = carriedOut m (orNone (parse (operations s))) in
       simp (l .taken .isSound, le-leb 1 (length s) (l .taken .nonzero), le-leb (length s) 2048 (l .taken .short), l .type, length-right m s l, w)
+      (unlocated (breakOf (operations s)) true true (fits (length room) d) (d .reply) (d .memory) m room)
 
 -- ---- the other calls, where their checks have passed
 
@@ -116,7 +126,7 @@ nothing-written MessageEmpty t = refl
 nothing-written MessageTooLong t = refl
 nothing-written TypeUnknown t = refl
 nothing-written LengthWrong t = refl
-nothing-written OperationMalformed t = refl
+nothing-written (OperationMalformed p) t = refl
 nothing-written ReplyDoesNotFit t = refl
 nothing-written Idle t = refl
 nothing-written NothingPending t = refl
@@ -125,6 +135,24 @@ nothing-written NotificationRoomTooSmall t = refl
 nothing-written NotPermitted t = refl
 nothing-written SendAgain t = refl
 nothing-written GivenUp t = refl
+
+pub nowhere : (r : Outcome) → OneOf (0 ∷ 1 ∷ 2 ∷ 3 ∷ 4 ∷ 5 ∷ 7 ∷ 8 ∷ 9 ∷ 10 ∷ 11 ∷ 12 ∷ 13 ∷ 14 ∷ []) (tagOf the-type r) → positionOf r ≡ 0
+unfolding positionOf
+nowhere (Done n) t = refl
+nowhere MemoryUnsound t = refl
+nowhere MessageEmpty t = refl
+nowhere MessageTooLong t = refl
+nowhere TypeUnknown t = refl
+nowhere LengthWrong t = refl
+nowhere (OperationMalformed p) t = absurd (miss (0 ∷ 1 ∷ 2 ∷ 3 ∷ 4 ∷ 5 ∷ 7 ∷ 8 ∷ 9 ∷ 10 ∷ 11 ∷ 12 ∷ 13 ∷ 14 ∷ []) 6 tt t)
+nowhere ReplyDoesNotFit t = refl
+nowhere Idle t = refl
+nowhere NothingPending t = refl
+nowhere AlreadyWaiting t = refl
+nowhere NotificationRoomTooSmall t = refl
+nowhere NotPermitted t = refl
+nowhere SendAgain t = refl
+nowhere GivenUp t = refl
 
 -- one octet written at the room's start
 pub first-set : (room : List ℕ) (x : ℕ) → 1 ≤ length room → set room 0 x ≡ (x ∷ []) ++ drop 1 room

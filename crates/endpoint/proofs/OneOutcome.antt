@@ -1,7 +1,7 @@
 -- What a contract says of its caller's octets: what was written is found in the room, and two outcomes that one definition gives are equal.
 use Prim.Native.Nat.{ℕ, _≤_}
 use native.Mathlib.Omega.{arith}
-use mathlib.Core.Path.{_≡_, refl, sym, ap₂, _∙_}
+use mathlib.Core.Path.{_≡_, refl, sym, _∙_}
 use mathlib.Core.Bool.{cond}
 use mathlib.Core.List.{List, [], _∷_}
 use lib.Dec.{eqb}
@@ -12,7 +12,7 @@ use Rattle.meaning.specs.Calls as calls
 use Rattle.meaning.proofs.Refused.{RoomAfter, message-room, build-room}
 use Rattle.endpoint.specs.declared.Outcome.{Outcome}
 use Rattle.endpoint.specs.declared.Outcome.the-variants.{Done, MemoryUnsound, MessageEmpty, MessageTooLong, TypeUnknown, LengthWrong, OperationMalformed, ReplyDoesNotFit, Idle, NothingPending, AlreadyWaiting, NotificationRoomTooSmall, NotPermitted, SendAgain, GivenUp}
-use Rattle.endpoint.specs.Outcomes.{numberOf, lengthOf, Gives}
+use Rattle.endpoint.specs.Outcomes.{numberOf, lengthOf, positionOf, Gives}
 
 -- ---- what was written
 
@@ -43,25 +43,25 @@ pub record Seen : Type 0 where
 abbrev pub Allows : calls.Outcome → Seen → Type 0
 Allows o x = Gives o (x .outcome) (x .memory) (x .room)
 
--- a number and a length belong to one outcome
+-- a number, a length and a position belong to one outcome
 
-refusals : List Outcome
-refusals =
-    MemoryUnsound ∷ MessageEmpty ∷ MessageTooLong ∷ TypeUnknown ∷ LengthWrong ∷ OperationMalformed ∷ ReplyDoesNotFit ∷ Idle ∷ NothingPending ∷ AlreadyWaiting
+refusals : ℕ → List Outcome
+refusals p =
+    MemoryUnsound ∷ MessageEmpty ∷ MessageTooLong ∷ TypeUnknown ∷ LengthWrong ∷ OperationMalformed p ∷ ReplyDoesNotFit ∷ Idle ∷ NothingPending ∷ AlreadyWaiting
     ∷ NotificationRoomTooSmall ∷ NotPermitted ∷ []
 
-outcomeOf : ℕ → ℕ → Outcome
-outcomeOf k n = cond (eqb k 20) SendAgain (getD (Done n ∷ refusals) k GivenUp)
+outcomeOf : ℕ → ℕ → ℕ → Outcome
+outcomeOf k n p = cond (eqb k 20) SendAgain (getD (Done n ∷ refusals p) k GivenUp)
 
-outcome-is : (r : Outcome) → outcomeOf (numberOf r) (lengthOf r) ≡ r
-unfolding outcomeOf refusals numberOf lengthOf
+outcome-is : (r : Outcome) → outcomeOf (numberOf r) (lengthOf r) (positionOf r) ≡ r
+unfolding outcomeOf refusals numberOf lengthOf positionOf
 outcome-is (Done n) = refl
 outcome-is MemoryUnsound = refl
 outcome-is MessageEmpty = refl
 outcome-is MessageTooLong = refl
 outcome-is TypeUnknown = refl
 outcome-is LengthWrong = refl
-outcome-is OperationMalformed = refl
+outcome-is (OperationMalformed p) = refl
 outcome-is ReplyDoesNotFit = refl
 outcome-is Idle = refl
 outcome-is NothingPending = refl
@@ -76,7 +76,9 @@ one-seen x y a b c = rw (a, b, c)
 
 pub one-outcome : (o : calls.Outcome) (x y : Seen) → Allows o x → Allows o y → x ≡ y
 one-outcome o x y g h =
-    one-seen x y (sym (outcome-is (x .outcome)) ∙ ap₂ outcomeOf (g .number ∙ sym (h .number)) (g .written ∙ sym (h .written)) ∙ outcome-is (y .outcome))
+    let told : outcomeOf (numberOf (x .outcome)) (lengthOf (x .outcome)) (positionOf (x .outcome)) ≡ outcomeOf (numberOf (y .outcome)) (lengthOf (y .outcome)) (positionOf (y .outcome)) =
+    rw (g .number ∙ sym (h .number), g .written ∙ sym (h .written), g .position ∙ sym (h .position)) in
+    one-seen x y (sym (outcome-is (x .outcome)) ∙ told ∙ outcome-is (y .outcome))
     (g .memoryIs ∙ sym (h .memoryIs)) (g .roomIs ∙ sym (h .roomIs))
 
 -- of each of the five calls

@@ -1,4 +1,4 @@
--- The number and the length of each outcome, and what it means that a call gives what a definition says.
+-- The number, the length and the position of each outcome, and what it means that a call gives what a definition says.
 use Prim.Native.Nat.{ℕ}
 use mathlib.Core.Path.{_≡_}
 use mathlib.Core.List.{List}
@@ -18,7 +18,7 @@ numberOf MessageEmpty = 2
 numberOf MessageTooLong = 3
 numberOf TypeUnknown = 4
 numberOf LengthWrong = 5
-numberOf OperationMalformed = 6
+numberOf (OperationMalformed p) = 6
 numberOf ReplyDoesNotFit = 7
 numberOf Idle = 8
 numberOf NothingPending = 9
@@ -35,7 +35,7 @@ lengthOf MessageEmpty = 0
 lengthOf MessageTooLong = 0
 lengthOf TypeUnknown = 0
 lengthOf LengthWrong = 0
-lengthOf OperationMalformed = 0
+lengthOf (OperationMalformed p) = 0
 lengthOf ReplyDoesNotFit = 0
 lengthOf Idle = 0
 lengthOf NothingPending = 0
@@ -45,10 +45,28 @@ lengthOf NotPermitted = 0
 lengthOf SendAgain = 0
 lengthOf GivenUp = 0
 
+unfoldable pub positionOf : Outcome → ℕ
+positionOf (Done n) = 0
+positionOf MemoryUnsound = 0
+positionOf MessageEmpty = 0
+positionOf MessageTooLong = 0
+positionOf TypeUnknown = 0
+positionOf LengthWrong = 0
+positionOf (OperationMalformed p) = p
+positionOf ReplyDoesNotFit = 0
+positionOf Idle = 0
+positionOf NothingPending = 0
+positionOf AlreadyWaiting = 0
+positionOf NotificationRoomTooSmall = 0
+positionOf NotPermitted = 0
+positionOf SendAgain = 0
+positionOf GivenUp = 0
+
 -- A call that answered r and left this memory and this room gives the outcome o. What was written stands at the room's start.
 pub record Gives (o : calls.Outcome) (r : Outcome) (memory room : List ℕ) : Type 0 where
   pub number : numberOf r ≡ o .number
   pub written : lengthOf r ≡ length (o .written)
+  pub position : positionOf r ≡ o .position
   pub memoryIs : memory ≡ o .memory
   pub roomIs : room ≡ o .room
 

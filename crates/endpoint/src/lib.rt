@@ -14,8 +14,8 @@
 //   delay_octets  a delay in nanoseconds as the value that `local_value` takes for it
 //
 // The five calls answer in one way, by an `Outcome`: done, with the length of what now stands at the room's start, or why
-// nothing was done. `number` gives the rules' number of it and `written` that length. The conversion refuses nothing and
-// is lent nothing, so it gives the octets themselves.
+// nothing was done. `number` gives the rules' number of it, `written` that length, and `position` where in the message a
+// command breaks. The conversion refuses nothing and is lent nothing, so it gives the octets themselves.
 //
 // No call asks for anything: none has a `requires`. Each contract says by a definition of `meaning` under the call's name
 // what is answered and what every lent octet holds afterwards, and allows one outcome alone (`one-outcome`, in `OneOutcome`).
@@ -30,8 +30,9 @@ ghost use Rattle.meaning.specs.Memory.{sound};
 ghost use Rattle.meaning.specs.Operation.{parse, isSome};
 ghost use Rattle.meaning.specs.Delay.{delay};
 ghost use Rattle.meaning.specs.Calls.{message, localValue, build, expiry, makeFresh};
-ghost use Rattle.endpoint.specs.Outcomes.{numberOf, lengthOf, Gives, acknowledgement, command};
+ghost use Rattle.endpoint.specs.Outcomes.{numberOf, lengthOf, positionOf, Gives, acknowledgement, command};
 use delay::Nanoseconds;
+use operation::Wholeness;
 
 // What a host lends and keeps, in octets: the memory of a port; the longest message that is not refused for its length; a
 // room that takes every reply; a room that a notification is built in, and the longest notification, which is to be kept.
@@ -53,8 +54,8 @@ pub const RUNNING_LENGTH_AT: usize = table::CELL_LENGTH * table::COMMIT + table:
 
 pub const RUNNING_AT: usize = table::RUNNING_AT;
 
-// What a call answers: done, with the length of what it wrote; twelve reasons why nothing was done; that a waiting
-// notification is to be sent again, or has been given up.
+// What a call answers: done, with the length of what it wrote; twelve reasons why nothing was done, that an operation is
+// malformed with its position in the message; that a waiting notification is to be sent again, or has been given up.
 pub enum Outcome {
     Done(usize),
     MemoryUnsound,
@@ -62,7 +63,7 @@ pub enum Outcome {
     MessageTooLong,
     TypeUnknown,
     LengthWrong,
-    OperationMalformed,
+    OperationMalformed(usize),
     ReplyDoesNotFit,
     Idle,
     NothingPending,
@@ -84,7 +85,7 @@ pub fn number(outcome: Outcome) -> usize
         Outcome::MessageTooLong => 3,
         Outcome::TypeUnknown => 4,
         Outcome::LengthWrong => 5,
-        Outcome::OperationMalformed => 6,
+        Outcome::OperationMalformed(_) => 6,
         Outcome::ReplyDoesNotFit => 7,
         Outcome::Idle => 8,
         Outcome::NothingPending => 9,
@@ -104,6 +105,16 @@ pub fn written(outcome: Outcome) -> usize
         return 0;
     };
     n
+}
+
+// The position in the message of the first operation that is malformed or cut short; 0 where the number is not 6.
+pub fn position(outcome: Outcome) -> usize
+    ensures { λ r. ⌜ r ≡ positionOf outcome ⌝ }
+{
+    let Outcome::OperationMalformed(at) = outcome else {
+        return 0;
+    };
+    at
 }
 
 // An acknowledgement (RULES 14.11).
@@ -155,10 +166,10 @@ fn take_command(memory: &mut [u8], sent: &[u8], room: &mut [u8]) -> Outcome
         return Outcome::LengthWrong;
     }
     let list = &sent[wire::COMMAND_HEAD..wire::COMMAND_HEAD + n];
-    if !operation::whole(list) {
-        return Outcome::OperationMalformed;
+    match operation::whole(list) {
+        Wholeness::Whole => carry_out(memory, list, room),
+        Wholeness::Broken(position) => Outcome::OperationMalformed(position),
     }
-    carry_out(memory, list, room)
 }
 
 // A message taken: a command or an acknowledgement.

@@ -11,10 +11,10 @@ use borrow.Author.Tests.{leb-true, le-leb, eqb-true}
 use Rattle.meaning.specs.Octets.{octet, every, implies}
 use Rattle.meaning.specs.Checks.{firstFailed}
 use Rattle.meaning.specs.Memory.{waiting, sound}
-use Rattle.meaning.specs.Operation.{Op, parse, isSome, orNone}
+use Rattle.meaning.specs.Operation.{Op, parse, isSome, orNone, breakOf}
 use Rattle.meaning.specs.Step.{after}
 use Rattle.meaning.specs.Reply.{complete}
-use Rattle.meaning.specs.Calls.{done, isCommand, isAcknowledgement, lengthField, operations, opsOf, lengthRight, records, carriedOut, handled, fits, messageChecks, message}
+use Rattle.meaning.specs.Calls.{done, isCommand, isAcknowledgement, lengthField, operations, opsOf, lengthRight, records, carriedOut, handled, fits, messageChecks, located, message}
 use Rattle.meaning.proofs.Tests.{every-at, implies-of, implied, first-passed, all-passing}
 use Rattle.meaning.proofs.Checked.{call-done, call-passed}
 use Rattle.meaning.proofs.Records.{Fits, fits-opened, fits-closed}
@@ -128,7 +128,7 @@ pub accepted-call : (m s room : List ℕ) (os : List Op) → Accepted m s (lengt
     → message m s room ≡ done (complete (records m os)) (after m os) room
 unfolding message carriedOut
 accepted-call m s room os a =
-    call-done (messageChecks m s (length room)) _ m room (accepted-passes m s (length room) os a)
+    ap (located (breakOf (operations s))) (call-done (messageChecks m s (length room)) _ m room (accepted-passes m s (length room) os a))
     ∙ rw (handled-command m s (a .command), ops-parsed s os (a .parsed))
 
 pub carried-accepted : (m s room : List ℕ) → isCommand s ≡ true → message m s room .number ≡ 0 → Accepted m s (length room) (opsOf s)

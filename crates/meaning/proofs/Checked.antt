@@ -3,12 +3,13 @@
 use Prim.Native.Nat.{ℕ, zero, suc}
 use native.Mathlib.Omega.{arith}
 use mathlib.Core.Path.{_≡_, refl, ap}
+use mathlib.Core.Bool.{Bool, true, false}
 use mathlib.Core.List.{List}
-use Rattle.meaning.specs.Checks.{Checks, firstFailed, whenPassed}
+use Rattle.meaning.specs.Checks.{Checks, passed, check, firstFailed, whenPassed}
 use Rattle.meaning.specs.Table.{place}
 use Rattle.meaning.specs.Memory.{store}
 use Rattle.meaning.specs.Step.{setChecks, stored, setMemory}
-use Rattle.meaning.specs.Calls.{Outcome, numberOnly, call}
+use Rattle.meaning.specs.Calls.{Outcome, done, numberOnly, call, located}
 
 -- ---- a call
 
@@ -37,6 +38,16 @@ call-memory P cs o m room p f = call-either (λ r. P (r .memory)) cs o m room f 
 pub call-passed : (cs : Checks) (o : Outcome) (m room : List ℕ) → call cs o m room .number ≡ 0 → firstFailed cs ≡ 0
 call-passed cs o m room =
     call-either (λ r. r .number ≡ 0 → firstFailed cs ≡ 0) cs o m room (λ e z. e) (λ n e z. absurd (omega arith))
+
+-- where the check of operations is passed no number is 6, so there is no position to tell
+pub unlocated : (p : ℕ) (a b c : Bool) (w m′ m room : List ℕ)
+    → let o = call (check 1 a (check 8 b (check 7 c passed))) (done w m′ room) m room in
+    located p o ≡ o
+unfolding call firstFailed whenPassed
+unlocated p false b c w m′ m room = refl
+unlocated p true false c w m′ m room = refl
+unlocated p true true false w m′ m room = refl
+unlocated p true true true w m′ m room = refl
 
 -- ---- a set
 

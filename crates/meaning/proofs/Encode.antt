@@ -107,12 +107,12 @@ parse-encoded os f = encoded-in os (length (flat encode os)) f (omega arith)
 -- ---- what is parsed was spelt so
 
 -- the octets s are those of the operation found and then those after it
-abbrev Split : List ℕ → Next → Type 0
+abbrev pub Split : List ℕ → Next → Type 0
 Split s bad = Unit {0}
 Split s (got o r) = (s ≡ encode o ++ r) × Fine o × Octets r
 
 -- a shape reads what was spelt with the code c
-abbrev Right : ℕ → Shape → Type 0
+abbrev pub Right : ℕ → Shape → Type 0
 Right c sh = (s : List ℕ) → Octets s → Split (c ∷ s) (shaped sh s)
 
 alone-right : (c : ℕ) (o : Op) → Fine o → encode o ≡ c ∷ [] → Right c (alone o)
@@ -170,7 +170,7 @@ choice-right c d x y p q = go (eqb c d) refl
     go true e = rw (eqb-true c d e) p
     go false e = q
 
-shape-right : (c : ℕ) → Right c (shape c)
+pub shape-right : (c : ℕ) → Right c (shape c)
 unfolding shape encode
 shape-right c =
     choice-right c 1 _ _ (alone-right 1 capabilities tt refl)
@@ -207,7 +207,7 @@ parse-spelt s os o e = subst (λ (p : Option (List Op)). Spelt s p) e (spelt-in 
 
 -- ---- the equation of `parse` with no bound: what a loop over the octets needs
 
-abbrev Shorter : ℕ → Next → Type 0
+abbrev pub Shorter : ℕ → Next → Type 0
 Shorter n bad = Unit {0}
 Shorter n (got o r) = length r ≤ n
 
@@ -219,7 +219,7 @@ whole-shorter w s o = go (leb w (length s))
     go true = omega (arith, length-drop w s)
     go false = tt
 
-shaped-shorter : (sh : Shape) (s : List ℕ) → Shorter (length s) (shaped sh s)
+pub shaped-shorter : (sh : Shape) (s : List ℕ) → Shorter (length s) (shaped sh s)
 unfolding shaped
 shaped-shorter (alone o) s = omega arith
 shaped-shorter (named f) s = whole-shorter 2 s (f (at16 s 0))
@@ -231,23 +231,31 @@ unfolding follow
 follow-same n bad g h s e = refl
 follow-same n (got o r) g h s e = ap (more o) (e r s)
 
-same-bound : (j k : ℕ) (s : List ℕ) → length s ≤ j → length s ≤ k → parseIn j s ≡ parseIn k s
+-- what goes through octets at most n at a time comes to the same by each n that is not under their number, if what it makes of some octets is
+-- settled by what it makes of fewer
+module _ {A : Type 0} (through : ℕ → List ℕ → A) (at-end : (n : ℕ) → through n [] ≡ through zero [])
+    (settled : (j k c : ℕ) (s : List ℕ) → ((r : List ℕ) → length r ≤ length s → through j r ≡ through k r) → through (suc j) (c ∷ s) ≡ through (suc k) (c ∷ s)) where
+  pub same-bound : (j k : ℕ) (s : List ℕ) → length s ≤ j → length s ≤ k → through j s ≡ through k s
+  same-bound zero k [] p q = sym (at-end k)
+  same-bound zero k (c ∷ s) p q = absurd (omega arith)
+  same-bound (suc j) k [] p q = at-end (suc j) ∙ sym (at-end k)
+  same-bound (suc j) zero (c ∷ s) p q = absurd (omega arith)
+  same-bound (suc j) (suc k) (c ∷ s) p q = settled j k c s (λ r h. same-bound j k r (omega arith) (omega arith))
+
+parsed-end : (n : ℕ) → parseIn n [] ≡ parseIn zero []
 unfolding parseIn
-same-bound zero zero s p q = refl
-same-bound zero (suc k) [] p q = refl
-same-bound zero (suc k) (c ∷ s) p q = absurd (omega arith)
-same-bound (suc j) zero [] p q = refl
-same-bound (suc j) zero (c ∷ s) p q = absurd (omega arith)
-same-bound (suc j) (suc k) [] p q = refl
-same-bound (suc j) (suc k) (c ∷ s) p q =
-    follow-same (length s) (shaped (shape c) s) (λ r. parseIn j r) (λ r. parseIn k r) (shaped-shorter (shape c) s)
-    (λ r h. same-bound j k r (omega arith) (omega arith))
+parsed-end zero = refl
+parsed-end (suc n) = refl
+
+parsed-settled : (j k c : ℕ) (s : List ℕ) → ((r : List ℕ) → length r ≤ length s → parseIn j r ≡ parseIn k r) → parseIn (suc j) (c ∷ s) ≡ parseIn (suc k) (c ∷ s)
+unfolding parseIn
+parsed-settled j k c s h = follow-same (length s) (shaped (shape c) s) (λ r. parseIn j r) (λ r. parseIn k r) (shaped-shorter (shape c) s) h
 
 pub parse-step : (c : ℕ) (s : List ℕ) → parse (c ∷ s) ≡ follow (shaped (shape c) s) parse
 unfolding parse parseIn
 parse-step c s =
     follow-same (length s) (shaped (shape c) s) (λ r. parseIn (length s) r) parse (shaped-shorter (shape c) s)
-    (λ r h. same-bound (length s) (length r) r h (omega arith))
+    (λ r h. same-bound parseIn parsed-end parsed-settled (length s) (length r) r h (omega arith))
 
 pub parse-nil : parse [] ≡ some []
 unfolding parse parseIn

@@ -1,14 +1,18 @@
 -- Octets after a command's operations, and after an acknowledgement's 04, are ignored.
 use Prim.Native.Nat.{ℕ, suc, _+_, _≤_, _<_}
 use native.Mathlib.Omega.{arith}
-use mathlib.Core.Path.{_≡_}
+use mathlib.Core.Path.{_≡_, sym, _∙_}
 use mathlib.Core.Bool.{true}
 use mathlib.Core.List.{List, [], _∷_, _++_}
 use lib.ListN.{length, length-append, List·getD-append}
 use borrow.Author.Tests.{le-leb}
 use Rattle.meaning.specs.Octets.{octet, at16, implies}
-use Rattle.meaning.specs.Calls.{isCommand, isAcknowledgement, lengthField, operations, opsOf, lengthRight, handled, messageChecks, message}
+use Rattle.meaning.specs.Checks.{passed, check, firstFailed}
+use Rattle.meaning.specs.Memory.{waiting, sound}
+use Rattle.meaning.specs.Operation.{breakOf}
+use Rattle.meaning.specs.Calls.{done, call, isCommand, isAcknowledgement, lengthField, operations, opsOf, lengthRight, acknowledged, handled, fits, messageChecks, message}
 use Rattle.meaning.proofs.Lists.{part-append}
+use Rattle.meaning.proofs.Checked.{unlocated}
 use Rattle.meaning.proofs.Accepted.{right-length, length-right}
 
 octet-append : (s t : List ℕ) (i : ℕ) → i < length s → octet (s ++ t) i ≡ octet s i
@@ -40,6 +44,14 @@ trailing-ignored m s t room r h =
       le-leb (length s) 2048 (omega (arith, n)),
     )
 
+-- what comes of an acknowledgement, whatever stands behind the 04
+acknowledgement-is : (m t room : List ℕ) → length (4 ∷ t) ≤ 2048
+    → message m (4 ∷ t) room
+    ≡ call (check 1 (sound m) (check 8 (waiting m) (check 7 (fits (length room) (acknowledged m)) passed))) (done (acknowledged m .reply) (acknowledged m .memory) room) m room
+unfolding message messageChecks call firstFailed handled isCommand isAcknowledgement implies
+acknowledgement-is m t room h =
+    rw (le-leb (suc (length t)) 2048 h, le-leb 1 (suc (length t)) (omega arith))
+    (unlocated (breakOf (operations (4 ∷ t))) (sound m) (waiting m) (fits (length room) (acknowledged m)) (acknowledged m .reply) (acknowledged m .memory) m room)
+
 pub acknowledgement-alone : (m t room : List ℕ) → length (4 ∷ t) ≤ 2048 → message m (4 ∷ t) room ≡ message m (4 ∷ []) room
-unfolding message messageChecks handled isCommand isAcknowledgement implies
-acknowledgement-alone m t room h = rw (le-leb (suc (length t)) 2048 h, le-leb 1 (suc (length t)) (omega arith))
+acknowledgement-alone m t room h = acknowledgement-is m t room h ∙ sym (acknowledgement-is m [] room (omega arith))

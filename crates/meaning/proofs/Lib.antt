@@ -17,6 +17,7 @@ pub mod Running
 pub mod Stored
 pub mod Given
 pub mod Encode
+pub mod Breaks
 pub mod Records
 pub mod Decode
 pub mod Fronts
@@ -34,6 +35,7 @@ pub mod Notified
 pub mod ReadBack
 pub mod Refused
 pub mod Numbers
+pub mod Positions
 pub mod Timer
 pub mod Sendings
 pub mod Longest

@@ -5,7 +5,7 @@ use native.Mathlib.Omega.{arith}
 use mathlib.Core.Path.{_≡_, refl, sym, ap, _∙_}
 use mathlib.Core.Bool.{true, false≢true}
 use mathlib.Core.List.{List, [], _∷_, _++_, append-assoc}
-use lib.ListN.{length, take, drop, length-append, length-drop, take-append-drop}
+use lib.ListN.{length, take, drop, length-append, length-take, length-drop, take-append-drop}
 use lib.Seq.{drop-at, take-append-le, drop-append-le, take-append-seam, drop-drop, length-take-le, getD-take, getD-drop}
 use Rattle.meaning.specs.Octets.{octet, at16, be16, part, splice, flat, nonempty}
 
@@ -75,6 +75,10 @@ part-append p q i n h =
 pub part-octet : (s : List ℕ) (i n j : ℕ) → j < n → octet (part s i n) j ≡ octet s (i + j)
 unfolding part
 part-octet s i n j h = rw (getD-take, getD-drop)
+
+pub part-most : (s : List ℕ) (i n : ℕ) → (length (part s i n) ≤ n) × (length (part s i n) ≤ length s)
+unfolding part
+part-most s i n = rw (length-take, length-drop) (omega arith, omega arith)
 
 pub length-part : (s : List ℕ) (i n : ℕ) → i + n ≤ length s → length (part s i n) ≡ n
 unfolding part

@@ -2,7 +2,7 @@
 -- those that are named after it whatever their own tests say.
 use Prim.Native.Nat.{ℕ, zero, suc, _+_, _*_, _≤_, _<_}
 use native.Mathlib.Omega.{arith}
-use mathlib.Core.Path.{_≡_, refl}
+use mathlib.Core.Path.{_≡_, refl, ap}
 use mathlib.Core.Logic.{_≢_, _⊎_, inl, inr}
 use mathlib.Core.Bool.{Bool, true, false, _||_, not}
 use mathlib.Core.Option.{none, some}
@@ -14,8 +14,8 @@ use Rattle.meaning.specs.Octets.{octet, at16, every, implies, nonempty}
 use Rattle.meaning.specs.Checks.{Checks, passed, check, firstFailed}
 use Rattle.meaning.specs.Table.{entryCount, memoryLength}
 use Rattle.meaning.specs.Memory.{pending, waiting, sound}
-use Rattle.meaning.specs.Operation.{Op, parse, isSome}
-use Rattle.meaning.specs.Calls.{numberOnly, isCommand, isAcknowledgement, lengthField, operations, lengthRight, records, carriedOut, acknowledged, handled, fits, messageChecks, message, localPermitted, localChecks, localValue, reports, buildChecks, build, expiryChecks, expiry, makeFresh}
+use Rattle.meaning.specs.Operation.{Op, parse, isSome, breakOf}
+use Rattle.meaning.specs.Calls.{Outcome, numberOnly, isCommand, isAcknowledgement, lengthField, operations, lengthRight, records, carriedOut, acknowledged, handled, fits, messageChecks, located, message, localPermitted, localChecks, localValue, reports, buildChecks, build, expiryChecks, expiry, makeFresh}
 use Rattle.meaning.proofs.Tests.{every-at, first-fails, first-after}
 use Rattle.meaning.proofs.Checked.{call-refused}
 use Rattle.meaning.proofs.Records.{Fits, fits-opened}
@@ -71,9 +71,13 @@ not-fitting n m os no-fit = go (fits n (carriedOut m os)) refl
     go false e = e
 
 module _ (m s room : List ℕ) where
-  first-is : (n : ℕ) → firstFailed (messageChecks m s (length room)) ≡ suc n → message m s room ≡ numberOnly (suc n) m room
+  -- a refusal with its position; at each number but 6 that is 0, so nothing is told but the number
+  abbrev refusal : ℕ → Outcome
+  refusal n = located (breakOf (operations s)) (numberOnly n m room)
+
+  first-is : (n : ℕ) → firstFailed (messageChecks m s (length room)) ≡ suc n → message m s room ≡ refusal (suc n)
   unfolding message
-  first-is n e = call-refused (messageChecks m s (length room)) _ m room n e
+  first-is n e = ap (located (breakOf (operations s))) (call-refused (messageChecks m s (length room)) _ m room n e)
 
   pub message-1 : sound m ≡ false → message m s room ≡ numberOnly 1 m room
   unfolding messageChecks firstFailed
@@ -96,7 +100,7 @@ module _ (m s room : List ℕ) where
       (check 8 (implies (isAcknowledgement s) (waiting m))
       (check 7 (fits (length room) (handled m s)) passed))))
 
-  rest-is : (n : ℕ) → Taken m s → firstFailed rest ≡ suc n → message m s room ≡ numberOnly (suc n) m room
+  rest-is : (n : ℕ) → Taken m s → firstFailed rest ≡ suc n → message m s room ≡ refusal (suc n)
   unfolding messageChecks firstFailed
   rest-is n t e = first-is n (simp (t .isSound, le-leb 1 (length s) (t .nonzero), le-leb (length s) 2048 (t .short)) e)
 
@@ -108,7 +112,8 @@ module _ (m s room : List ℕ) where
   unfolding firstFailed isCommand implies
   message-5 t a d = rest-is 4 t (simp (eq-eqb (octet s 0) 1 a, length-wrong s d))
 
-  pub message-6 : Measured m s → parse (operations s) ≡ none → message m s room ≡ numberOnly 6 m room
+  -- where it breaks is told too
+  pub message-6 : Measured m s → parse (operations s) ≡ none → message m s room ≡ located (breakOf (operations s)) (numberOnly 6 m room)
   unfolding firstFailed isCommand implies
   message-6 l e = rest-is 5 (l .taken) (simp (eq-eqb (octet s 0) 1 (l .type), length-right m s l, e))
 

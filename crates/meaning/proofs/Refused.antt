@@ -114,7 +114,9 @@ refusal cs o m room d =
 
 pub message-refused : (m s room : List ℕ) → 1 ≤ message m s room .number → Unchanged (message m s room) m room
 unfolding message
-message-refused m s room a = refusal (messageChecks m s (length room)) _ m room (inl refl) a (omega (arith, message-number m s room))
+message-refused m s room a =
+    let u = refusal (messageChecks m s (length room)) _ m room (inl refl) a (omega (arith, message-number m s room)) in
+    record { nothing = u .nothing; sameMemory = u .sameMemory; sameRoom = u .sameRoom }
 
 pub localValue-refused : (m : List ℕ) (n : ℕ) (v : List ℕ) → 1 ≤ localValue m n v .number → Unchanged (localValue m n v) m []
 unfolding localValue localChecks
@@ -184,8 +186,10 @@ call-room cs w m′ m room h =
 pub message-room : (m s room : List ℕ) → RoomAfter (message m s room) room
 unfolding message fits
 message-room m s room =
+    let a =
     call-room (messageChecks m s (length room)) (handled m s .reply) (handled m s .memory) m room
-    (λ e. leb-true _ _ (every-at _ 0 (message-passed m s (length room) e .fit)))
+    (λ e. leb-true _ _ (every-at _ 0 (message-passed m s (length room) e .fit))) in
+    record { inRoom = a .inRoom; long = a .long; after = a .after }
 
 pub build-room : (m room : List ℕ) → RoomAfter (build m room) room
 unfolding build buildChecks

@@ -15,9 +15,9 @@ use Rattle.meaning.specs.Checks.{firstFailed, whenPassed}
 use Rattle.meaning.specs.Table.{Row, nobody, row, rowAt, rows, placeIn, place, listed, byController, byPort, free, entryCount, commit}
 use Rattle.meaning.specs.Block.{permits}
 use Rattle.meaning.specs.Memory.{present, subscribed, pending, body, store, setMarks, setTimer, sound, expiries}
-use Rattle.meaning.specs.Operation.{Op, capabilities, read, set, subscribe, unsubscribe}
+use Rattle.meaning.specs.Operation.{Op, capabilities, read, set, subscribe, unsubscribe, breakOf}
 use Rattle.meaning.specs.Step.{block, commits, permitted, setChecks, stored, setMemory, setAnswer, subscribeMemory, unsubscribeMemory, step, answer, update, after}
-use Rattle.meaning.specs.Calls.{Outcome, done, isCommand, opsOf, carriedOut, acknowledged, handled, messageChecks, message, differs, localMemory, localChecks, localValue, cleared, buildChecks, build, expired, expiryChecks, expiry}
+use Rattle.meaning.specs.Calls.{Outcome, done, isCommand, operations, opsOf, carriedOut, acknowledged, handled, messageChecks, located, message, differs, localMemory, localChecks, localValue, cleared, buildChecks, build, expired, expiryChecks, expiry}
 use Rattle.meaning.proofs.Tests.{first-passed, all-passing}
 use Rattle.meaning.proofs.Places.{listed-place}
 use Rattle.meaning.proofs.Checked.{call-either, call-memory, set-stores, set-either}
@@ -216,7 +216,7 @@ pub record CommandRuns (m s : List ℕ) (o : Outcome) : Type 0 where
 pub message-running : (m s room : List ℕ) → sound m ≡ true → SameRunning m (message m s room .memory) ⊎ CommandRuns m s (message m s room)
 unfolding message handled carriedOut acknowledged
 message-running m s room h =
-    call-either (λ o. SameRunning m (o .memory) ⊎ CommandRuns m s o) (messageChecks m s (length room)) _ m room
+    call-either (λ o. SameRunning m (o .memory) ⊎ CommandRuns m s (located (breakOf (operations s)) o)) (messageChecks m s (length room)) _ m room
     (λ e. go (isCommand s) refl)
     (λ n e. inl (same-running m))
   where

@@ -1,4 +1,4 @@
--- The calls: each a function of the lent octets that gives the number, the octets written, the memory and the room afterwards.
+-- The calls: each a function of the lent octets that gives the number, the position, the octets written, the memory and the room afterwards.
 use Prim.Native.Nat.{ℕ, zero, suc, _+_}
 use mathlib.Core.Bool.{Bool, true, false, _&&_, _||_, not, cond}
 use mathlib.Core.List.{List, [], _∷_, _++_}
@@ -10,24 +10,26 @@ use Rattle.meaning.specs.Table.{rowAt, place, listed, byPort, entryCount
 use Rattle.meaning.specs.Wire.{typeCommand, typeNotify, typeNotifyAck, typeNotifyComplete, causeUnavailable, messageMost, replyMost, notificationRoom, expiriesMost}
 use Rattle.meaning.specs.Block.{permits}
 use Rattle.meaning.specs.Memory.{present, subscribed, pending, body, flags, put, setMarks, setTimer, waiting, expiries, sound, fresh}
-use Rattle.meaning.specs.Operation.{Op, parse, isSome, orNone}
+use Rattle.meaning.specs.Operation.{Op, parse, isSome, orNone, breakOf}
 use Rattle.meaning.specs.Step.{Answer, value, readError, after, answers}
 use Rattle.meaning.specs.Reply.{Records, gathered, complete, countsFit, readContents}
 
--- What a call gives. The length returned is that of `written`. A call that is lent no room has an empty one.
+-- What a call gives. The length returned is that of `written`. A call that is lent no room has an empty one. The position says where a command
+-- breaks, and is 0 where none does.
 pub record Outcome : Type 0 where
   pub number : ℕ
+  pub position : ℕ
   pub written : List ℕ
   pub memory : List ℕ
   pub room : List ℕ
 
 -- octets written at the room's start; those after them stay (RULES 2.6)
 abbrev pub done : List ℕ → List ℕ → List ℕ → Outcome
-done w m room = record { number = 0; written = w; memory = m; room = w ++ drop (length w) room }
+done w m room = record { number = 0; position = 0; written = w; memory = m; room = w ++ drop (length w) room }
 
 -- a number with nothing written
 abbrev pub numberOnly : ℕ → List ℕ → List ℕ → Outcome
-numberOnly n m room = record { number = n; written = []; memory = m; room = room }
+numberOnly n m room = record { number = n; position = 0; written = []; memory = m; room = room }
 
 -- a call: where a check fails its number, and no lent octet changes (RULES 15.24, 15.25)
 unfoldable pub call : Checks → Outcome → List ℕ → List ℕ → Outcome
@@ -89,8 +91,14 @@ messageChecks m s n =
     (check 8 (implies (isAcknowledgement s) (waiting m))
     (check 7 (fits n (handled m s)) passed)))))))
 
+-- an outcome that tells the position p where its number is 6, and 0 with every other (RULES 15.27, 15.28)
+abbrev pub located : ℕ → Outcome → Outcome
+located p o = record { number = o .number; position = cond (eqb (o .number) 6) p 0; written = o .written; memory = o .memory; room = o .room }
+
 unfoldable pub message : List ℕ → List ℕ → List ℕ → Outcome
-message m s room = call (messageChecks m s (length room)) (done (handled m s .reply) (handled m s .memory) room) m room
+message m s room =
+    located (breakOf (operations s))
+    (call (messageChecks m s (length room)) (done (handled m s .reply) (handled m s .memory) room) m room)
 
 -- ---- a local value (RULES 13)
 

@@ -1,5 +1,5 @@
 -- The operations of a command, and how a list of octets is parsed to operations.
-use Prim.Native.Nat.{ℕ, zero, suc, _+_}
+use Prim.Native.Nat.{ℕ, zero, suc, _+_, _-_}
 use mathlib.Core.Bool.{Bool, true, false, cond}
 use mathlib.Core.List.{List, [], _∷_}
 use mathlib.Core.Option.{Option, none, some}
@@ -73,3 +73,28 @@ isSome (some os) = true
 abbrev pub orNone : Option (List Op) → List Op
 orNone none = []
 orNone (some os) = os
+
+-- ---- where a list breaks
+
+-- the octets s, by what their first operation is: all of them where it is malformed or cut short, else those that count of the rest
+unfoldable pub fromBroken : List ℕ → Next → (List ℕ → List ℕ) → List ℕ
+fromBroken s bad rest = s
+fromBroken s (got o r) rest = rest r
+
+-- at most n octets gone through, as by `parseIn`
+unfoldable pub brokenIn : ℕ → List ℕ → List ℕ
+brokenIn zero s = s
+brokenIn (suc n) [] = []
+brokenIn (suc n) (c ∷ s) = fromBroken (c ∷ s) (shaped (shape c) s) (λ r. brokenIn n r)
+
+-- the octets from the first operation on that is malformed or cut short; none where each is whole
+unfoldable pub broken : List ℕ → List ℕ
+broken s = brokenIn (length s) s
+
+-- a place among the L octets as a position in the message, whose first octet is 0: its type and L stand before them (RULES 10.1)
+abbrev pub inMessage : ℕ → ℕ
+inMessage at = 3 + at
+
+-- the position of the first operation that is malformed or cut short, from the L octets (RULES 15.27)
+unfoldable pub breakOf : List ℕ → ℕ
+breakOf s = inMessage (length s - length (broken s))

@@ -9,7 +9,7 @@ use lib.Seq.{drop-cons, drop-drop, getD-drop}
 use lib.Dec.{eqb}
 use borrow.Author.Tests.{le-leb, lt-leb, ne-eqb}
 use Rattle.meaning.specs.Octets.{at16, part}
-use Rattle.meaning.specs.Operation.{read, set, subscribe, unsubscribe, Shape, named, valued, malformed, shape, bad, got, whole, shaped}
+use Rattle.meaning.specs.Operation.{read, set, subscribe, unsubscribe, Shape, named, valued, malformed, shape, bad, got, whole, shaped, inMessage}
 use Rattle.meaning.specs.Operation as operation
 use Rattle.meaning.proofs.Lists.{length-part}
 use Rattle.operation.specs.declared.Op.{Op}
@@ -100,7 +100,7 @@ module _ (s : List ℕ) (at : ℕ) where
     unfolding foundAt opAt shape shaped
     capabilities-found e = rw (found-is 1 e) (ap (Operation Capabilities) (omega (arith, rest-length)))
 
-    pub name-cut : (getD s at 0 ≡ 1 → ⊥) → length s - at < 3 → Malformed ≡ handedAt s at
+    pub name-cut : (getD s at 0 ≡ 1 → ⊥) → length s - at < 3 → Malformed (inMessage at) ≡ handedAt s at
     unfolding foundAt
     name-cut e k = rw (found-is _ refl, shape-cut _ e rest (omega (arith, rest-length)))
 
@@ -123,15 +123,15 @@ module _ (s : List ℕ) (at : ℕ) where
       unsubscribe-found e eo = whole-found 5 2 (unsubscribe n) o (at + 3) e (named-is unsubscribe) (omega arith) (omega arith) eo
 
     -- a set whose length or value is cut short
-    set-cut : getD s at 0 ≡ 3 → length s - at < 5 + at16 s (at + 3) → Malformed ≡ handedAt s at
+    set-cut : getD s at 0 ≡ 3 → length s - at < 5 + at16 s (at + 3) → Malformed (inMessage at) ≡ handedAt s at
     unfolding foundAt shape shaped
     set-cut e k =
         rw (found-is 3 e, rest-at16 2 (at + 3) (omega arith), whole-cut (4 + at16 s (at + 3)) rest _ (omega (arith, rest-length)))
 
-    pub length-cut : getD s at 0 ≡ 3 → length s - at < 5 → Malformed ≡ handedAt s at
+    pub length-cut : getD s at 0 ≡ 3 → length s - at < 5 → Malformed (inMessage at) ≡ handedAt s at
     length-cut e k = set-cut e (omega arith)
 
-    pub value-cut : (size : ℕ) → getD s at 0 ≡ 3 → size ≡ at16 s (at + 3) → length s - at < 5 + size → Malformed ≡ handedAt s at
+    pub value-cut : (size : ℕ) → getD s at 0 ≡ 3 → size ≡ at16 s (at + 3) → length s - at < 5 + size → Malformed (inMessage at) ≡ handedAt s at
     value-cut size e z l = set-cut e (omega arith)
 
     pub set-found : (n from size : ℕ) → from ≡ at + 5 → getD s at 0 ≡ 3 → n ≡ at16 s (at + 1) → size ≡ at16 s (at + 3) → 5 + size ≤ length s - at
@@ -144,6 +144,6 @@ module _ (s : List ℕ) (at : ℕ) where
         (omega arith) (omega arith) (ap₂ (Set n) ef (sym p))
 
     pub other-found : (getD s at 0 ≡ 1 → ⊥) → (getD s at 0 ≡ 2 → ⊥) → (getD s at 0 ≡ 3 → ⊥) → (getD s at 0 ≡ 4 → ⊥) → (getD s at 0 ≡ 5 → ⊥)
-        → Malformed ≡ handedAt s at
+        → Malformed (inMessage at) ≡ handedAt s at
     unfolding foundAt shaped
     other-found a b d e f = rw (found-is _ refl, other-code _ a b d e f)

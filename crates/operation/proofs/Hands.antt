@@ -40,7 +40,7 @@ module _ (s : List ℕ) (octets : (i : ℕ) → getD s i 0 < 256) (at : ℕ) whe
             let e : length s - length (drop w behind) ≡ suc at + w = omega (arith, rest-length s at h, length-drop w behind) in
             rw (whole-there w behind o l, e, k l .0, rest-drop s at h w (suc at + w) refl)
             (refl, (omega arith, omega (arith, l, rest-length s at h), k l .1))
-        go (no l) = rw (whole-cut w behind o (omega arith)) (refl, tt)
+        go (no l) = rw (whole-cut w behind o (omega arith)) (refl, refl)
 
     named-hands : (f : ℕ → operation.Op) → ((n : ℕ) → n < 65536 → (opOf s (opAt at (f n)) ≡ f n) × Inside (length s) (opAt at (f n))) → Meets (shaped (named f) behind)
     unfolding shaped
@@ -65,7 +65,7 @@ module _ (s : List ℕ) (octets : (i : ℕ) → getD s i 0 < 256) (at : ℕ) whe
 
     malformed-hands : Meets (shaped malformed behind)
     unfolding shaped handing foundAt
-    malformed-hands = (refl, tt)
+    malformed-hands = (refl, refl)
 
     shape-hands : (c : ℕ) → Meets (shaped (shape c) behind)
     unfolding shape opOf opAt

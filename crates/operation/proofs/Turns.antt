@@ -1,19 +1,22 @@
--- One turn of a loop over the operations of a list: what is parsed from a position, by what the position hands out.
+-- One turn of a loop over the operations of a list: what is parsed and what is broken from a position on, by what the position hands out.
 use Prim.Native.Nat.{ℕ, _+_, _≤_, _<_}
 use native.Mathlib.Omega.{arith}
 use mathlib.Core.Path.{_≡_, refl, sym, ap, _∙_}
-use mathlib.Core.Bool.{true, false≢true}
+use mathlib.Core.Bool.{Bool, true, false, cond, false≢true}
 use mathlib.Core.List.{List, [], _∷_}
 use mathlib.Core.Option.{Option, none, some}
-use lib.ListN.{length, drop}
-use Rattle.meaning.specs.Operation.{Next, bad, got, shape, shaped, follow, more, parse, isSome, orNone}
+use lib.ListN.{length, drop, length-drop}
+use Rattle.meaning.specs.Operation.{Next, bad, got, shape, shaped, follow, more, parse, isSome, orNone, broken, inMessage, breakOf}
 use Rattle.meaning.specs.Operation as operation
-use Rattle.meaning.proofs.Encode.{parse-step, parse-nil}
+use Rattle.meaning.proofs.Encode.{firstOf, parse-step, parse-nil}
+use Rattle.meaning.proofs.Breaks.{broken-got, broken-bad}
 use Rattle.operation.specs.declared.Op.{Op}
 use Rattle.operation.specs.declared.Op.the-variants.{Capabilities, Read, Set, Subscribe, Unsubscribe}
 use Rattle.operation.specs.declared.Handed.{Handed}
 use Rattle.operation.specs.declared.Handed.the-variants.{Operation, Malformed, End}
-use Rattle.operation.specs.Handing.{opOf, nameOf, fromOf, sizeOf, Inside}
+use Rattle.operation.specs.declared.Wholeness.{Wholeness}
+use Rattle.operation.specs.declared.Wholeness.the-variants.{Whole, Broken}
+use Rattle.operation.specs.Handing.{opOf, nameOf, fromOf, sizeOf, Inside, wholeness}
 
 -- ---- what a turn begins with
 
@@ -28,13 +31,13 @@ first (c ∷ s) = found (shaped (shape c) s)
 
 unfoldable pub handing : List ℕ → Handed → Handing
 handing s (Operation o next) = found (got (opOf s o) (drop next s))
-handing s Malformed = found bad
+handing s (Malformed p) = found bad
 handing s End = ended
 
--- the position after an operation lies ahead, and within n octets
+-- the place after an operation lies ahead, and within n octets; the position of one that is malformed is that of the place in the message
 abbrev pub Reached : ℕ → ℕ → Handed → Type 0
 Reached n at (Operation o next) = (at < next) × (next ≤ n) × Inside n o
-Reached n at Malformed = Unit {0}
+Reached n at (Malformed p) = p ≡ inMessage at
 Reached n at End = Unit {0}
 
 -- r is what the list s hands out at a position, wherever a set's value lies
@@ -62,9 +65,9 @@ pub turn : (s : List ℕ) (at next : ℕ) (o : Op) → handing s (Operation o ne
 unfolding parsed handing follow
 turn s at next o e = parse-handing s at (Operation o next) e
 
-pub turn-malformed : (s : List ℕ) (at : ℕ) → handing s Malformed ≡ first (drop at s) → parse (drop at s) ≡ none
+pub turn-malformed : (s : List ℕ) (at p : ℕ) → handing s (Malformed p) ≡ first (drop at s) → parse (drop at s) ≡ none
 unfolding parsed handing follow
-turn-malformed s at e = parse-handing s at Malformed e
+turn-malformed s at p e = parse-handing s at (Malformed p) e
 
 pub turn-end : (s : List ℕ) (at : ℕ) → handing s End ≡ first (drop at s) → parse (drop at s) ≡ some []
 unfolding parsed handing
@@ -93,6 +96,63 @@ module _ (s : List ℕ) (at next : ℕ) (o : Op) (e : handing s (Operation o nex
   turn-ops w =
       ap orNone (turn s at next o e)
       ∙ more-ops (opOf s o) (parse (drop next s)) (sym (ap isSome (turn s at next o e)) ∙ w)
+
+-- ---- what is broken
+
+-- the first operation of the octets from here, by what they hand out
+nextOf : Handing → Next
+nextOf ended = bad
+nextOf (found nx) = nx
+
+first-known : (s : List ℕ) (h : Handing) → h ≡ first s → firstOf s ≡ nextOf h
+unfolding first nextOf
+first-known [] h e = ap nextOf (sym e)
+first-known (c ∷ s) h e = ap nextOf (sym e)
+
+-- an operation: from here on and from the place after it the same is broken
+pub turn-broken : (s : List ℕ) (at next : ℕ) (o : Op) → handing s (Operation o next) ≡ first (drop at s) → broken (drop at s) ≡ broken (drop next s)
+unfolding handing nextOf
+turn-broken s at next o e = broken-got (drop at s) (opOf s o) (drop next s) (first-known (drop at s) (handing s (Operation o next)) e)
+
+-- one that is malformed or cut short: all from here on
+pub turn-breaks : (s : List ℕ) (at p : ℕ) → handing s (Malformed p) ≡ first (drop at s) → broken (drop at s) ≡ drop at s
+unfolding handing nextOf
+turn-breaks s at p e = broken-bad (drop at s) (first-known (drop at s) (handing s (Malformed p)) e)
+
+-- ---- whether a list is whole
+
+pub is-whole : (s : List ℕ) → isSome (parse s) ≡ true → Whole ≡ wholeness s
+unfolding wholeness
+is-whole s w = rw w
+
+pub breaks-at : (s : List ℕ) (at p : ℕ) → at ≤ length s → isSome (parse s) ≡ false → broken s ≡ drop at s → p ≡ inMessage at → Broken p ≡ wholeness s
+unfolding wholeness breakOf
+breaks-at s at p h w e k = rw (w, e, k) (ap Broken (omega (arith, length-drop at s, h)))
+
+-- what an answer says of the list
+isWhole : Wholeness → Bool
+isWhole Whole = true
+isWhole (Broken p) = false
+
+positionIn : Wholeness → ℕ
+positionIn Whole = 0
+positionIn (Broken p) = p
+
+pub whole-some : (s : List ℕ) → Whole ≡ wholeness s → isSome (parse s) ≡ true
+unfolding wholeness isWhole
+whole-some s e = go (isSome (parse s)) e
+  where
+    go : (b : Bool) → Whole ≡ cond b Whole (Broken (breakOf s)) → b ≡ true
+    go true f = refl
+    go false f = sym (ap isWhole f)
+
+pub broken-none : (s : List ℕ) (p : ℕ) → Broken p ≡ wholeness s → (isSome (parse s) ≡ false) × (p ≡ breakOf s)
+unfolding wholeness isWhole positionIn
+broken-none s p e = go (isSome (parse s)) e
+  where
+    go : (b : Bool) → Broken p ≡ cond b Whole (Broken (breakOf s)) → (b ≡ false) × (p ≡ breakOf s)
+    go true f = absurd (false≢true (ap isWhole f))
+    go false f = (refl, ap positionIn f)
 
 -- ---- the fields of an operation that lies within a list
 

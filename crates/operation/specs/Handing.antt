@@ -1,14 +1,17 @@
 -- The operations of the code's enum as those of `meaning`, and what a list hands out.
 use Prim.Native.Nat.{ℕ, _+_, _-_, _≤_, _<_}
+use mathlib.Core.Bool.{cond}
 use mathlib.Core.List.{List, [], _∷_}
 use lib.ListN.{length, drop}
 use Rattle.meaning.specs.Octets.{part}
-use Rattle.meaning.specs.Operation.{capabilities, read, set, subscribe, unsubscribe, Next, bad, got, shape, shaped}
+use Rattle.meaning.specs.Operation.{capabilities, read, set, subscribe, unsubscribe, Next, bad, got, shape, shaped, parse, isSome, inMessage, breakOf}
 use Rattle.meaning.specs.Operation as operation
 use Rattle.operation.specs.declared.Op.{Op}
 use Rattle.operation.specs.declared.Op.the-variants.{Capabilities, Read, Set, Subscribe, Unsubscribe}
 use Rattle.operation.specs.declared.Handed.{Handed}
 use Rattle.operation.specs.declared.Handed.the-variants.{Operation, Malformed, End}
+use Rattle.operation.specs.declared.Wholeness.{Wholeness}
+use Rattle.operation.specs.declared.Wholeness.the-variants.{Whole, Broken}
 
 -- an operation of the list s: a set's value is a part of it
 unfoldable pub opOf : List ℕ → Op → operation.Op
@@ -58,9 +61,9 @@ opAt at (set n v) = Set n (at + 5) (length v)
 opAt at (subscribe n) = Subscribe n
 opAt at (unsubscribe n) = Unsubscribe n
 
--- what is found at a position of n octets; the octets behind an operation tell the position after it
+-- what is found at a place of n octets; the octets behind an operation tell the place after it, and what is none tells its position in the message
 unfoldable pub foundAt : ℕ → ℕ → Next → Handed
-foundAt n at bad = Malformed
+foundAt n at bad = Malformed (inMessage at)
 foundAt n at (got o behind) = Operation (opAt at o) (n - length behind)
 
 -- the end where no octet is left at the position, else what the first operation of those left is
@@ -71,3 +74,8 @@ handedFrom n at (c ∷ s) = foundAt n at (shaped (shape c) s)
 -- what the list s hands out at a position
 unfoldable pub handedAt : List ℕ → ℕ → Handed
 handedAt s at = handedFrom (length s) at (drop at s)
+
+-- ---- whether a list is whole, or where it breaks
+
+unfoldable pub wholeness : List ℕ → Wholeness
+wholeness s = cond (isSome (parse s)) Whole (Broken (breakOf s))

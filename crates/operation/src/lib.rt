@@ -1,8 +1,7 @@
 // The operations of a command, handed out from its list of octets by a reader (RULES 10.10), and whether a list is whole.
 // What is handed out is what `meaning` finds at the position.
 ghost use mathlib.Core.Path.{_≡_};
-ghost use Rattle.meaning.specs.Operation.{parse, isSome};
-ghost use Rattle.operation.specs.Handing.{nameOf, fromOf, sizeOf, handedAt};
+ghost use Rattle.operation.specs.Handing.{nameOf, fromOf, sizeOf, handedAt, wholeness};
 
 // An operation. The value of a set lies in the list: where it starts, and its length.
 pub enum Op {
@@ -13,10 +12,11 @@ pub enum Op {
     Unsubscribe(usize),
 }
 
-// What a list hands out at a position: an operation and the position after it, one that is malformed or cut short, the end.
+// What a list hands out at a place: an operation and the place after it; that one is malformed or cut short, and its position in the message;
+// the end.
 pub enum Handed {
     Operation(Op, usize),
-    Malformed,
+    Malformed(usize),
     End,
 }
 
@@ -28,22 +28,23 @@ pub fn operation_at(list: &[u8], at: usize) -> Handed
         return Handed::End;
     }
     let left = list.len() - at;
+    let position = wire::COMMAND_HEAD + at;
     let code = list[at];
     if code == wire::CODE_CAPABILITIES {
         let op = Op::Capabilities;
         return Handed::Operation(op, at + 1);
     }
     if left < 3 {
-        return Handed::Malformed;
+        return Handed::Malformed(position);
     }
     let name = octets::get16(list, at + 1);
     if code == wire::CODE_SET {
         if left < 5 {
-            return Handed::Malformed;
+            return Handed::Malformed(position);
         }
         let size = octets::get16(list, at + 3);
         if left < 5 + size {
-            return Handed::Malformed;
+            return Handed::Malformed(position);
         }
         let op = Op::Set(name, at + 5, size);
         return Handed::Operation(op, at + 5 + size);
@@ -52,7 +53,7 @@ pub fn operation_at(list: &[u8], at: usize) -> Handed
         wire::CODE_READ => Op::Read(name),
         wire::CODE_SUBSCRIBE => Op::Subscribe(name),
         wire::CODE_UNSUBSCRIBE => Op::Unsubscribe(name),
-        _ => return Handed::Malformed,
+        _ => return Handed::Malformed(position),
     };
     Handed::Operation(op, at + 3)
 }
@@ -91,16 +92,22 @@ pub fn hand_out(list: &[u8], at: usize) -> Handed
     next(moved(reader_of(list), at))
 }
 
-// Whether each octet of a list belongs to a whole operation.
-pub fn whole(list: &[u8]) -> bool
-    ensures { λ r. ⌜ r ≡ isSome (parse (now (list .entry))) ⌝ }
+// Whether each octet of a list belongs to a whole operation; else the position in the message of the first operation that is malformed or cut short.
+pub enum Wholeness {
+    Whole,
+    Broken(usize),
+}
+
+// The wholeness of a list.
+pub fn whole(list: &[u8]) -> Wholeness
+    ensures { λ r. ⌜ r ≡ wholeness (now (list .entry)) ⌝ }
 {
     let mut at: usize = 0;
     loop {
         match hand_out(list, at) {
             Handed::Operation(_, next) => at = next,
-            Handed::Malformed => return false,
-            Handed::End => return true,
+            Handed::Malformed(position) => return Wholeness::Broken(position),
+            Handed::End => return Wholeness::Whole,
         }
     }
 }

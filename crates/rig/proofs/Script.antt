@@ -31,7 +31,7 @@ module _ (held out : List ℕ) (p : Between Port) (memory room : List ℕ) (lent
   of-piece : Takes (pieceAt 3 held from .first) (pieceAt 3 held from .body) memory room lent out at r memory′ room′ out′
   of-piece = subst (λ (x : Piece). Takes (x .first) (x .body) memory room lent out at r memory′ room′ out′) (cut-out 3 held from e) t
 
-  pub instruction-turn : {to : ℕ} {lends : Lent} → r ≡ took.Line to lends → (to ≤ at + 16389) × Lends lends × Joins instructions held p (port memory′ room′ lends end) to out′
+  pub instruction-turn : {to : ℕ} {lends : Lent} → r ≡ took.Line to lends → (to ≤ at + 16396) × Lends lends × Joins instructions held p (port memory′ room′ lends end) to out′
   unfolding goesOn lineAt next effectOf
   instruction-turn {to} {lends} f =
       let b : Takes (pieceAt 3 held from .first) (pieceAt 3 held from .body) memory room lent out at (took.Line to lends) memory′ room′ out′ = rw f at of-piece in

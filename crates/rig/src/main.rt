@@ -19,8 +19,9 @@ const HEAD: usize = 3;
 const INPUT: usize = 131072;
 // Lines are written out when they fill this much.
 const DUE: usize = 65536;
-// Octets that the line of a full room may take: two digits for each octet, the number before and the line's end.
-const LINE: usize = 2 * script::MOST_ROOM + 5;
+// Octets that the line of a full room may take: two digits for each octet, two numbers with a space behind each, and the
+// line's end.
+const LINE: usize = 2 * script::MOST_ROOM + 12;
 
 // How far the instructions that are held are taken: the place of the next one, the place after the lines, what is lent,
 // and whether the next one is faulty.
@@ -119,7 +120,7 @@ fn serve(memory: &mut [u8], room: &mut [u8], lent: Lent, held: &[u8], out: &mut 
 // Reads and serves until the input ends or an instruction is faulty. A proved loop has to end, and nothing says that input
 // does: so the loop counts its turns down, from a number that no run uses up.
 fn run(memory: &mut [u8], block: &mut [u8], room: &mut [u8], out: &mut [u8])
-    requires { ⌜ (length (now memory) ≡ 2200) × (length (now block) ≡ 131072) × (length (now room) ≡ 8192) × (length (now out) ≡ 81925) ⌝ }
+    requires { ⌜ (length (now memory) ≡ 2200) × (length (now block) ≡ 131072) × (length (now room) ≡ 8192) × (length (now out) ≡ 81932) ⌝ }
 {
     let mut lent = Lent {
         memory: endpoint::MEMORY_LENGTH,

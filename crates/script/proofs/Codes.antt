@@ -8,46 +8,48 @@ use mathlib.Core.Bool.{Bool, true, false, false≢true}
 use mathlib.Core.List.{List, [], _∷_}
 use lib.ListN.{length, drop, List·getD-eq-default}
 use lib.Dec.{eqb, leb}
-use borrow.Author.Tests.{leb-true, eqb-true}
+use borrow.Author.Tests.{leb-true, eqb-true, eq-eqb}
 use Rattle.meaning.specs.Octets.{at16}
 use Rattle.meaning.specs.Delay.{delay}
 use Rattle.meaning.specs.Calls.{Outcome, makeFresh, message, localValue, build, expiry}
 use Rattle.meaning.proofs.Refused.{RoomAfter, message-room, build-room, localValue-room, expiry-room, makeFresh-room}
+use Rattle.meaning.proofs.Positions.{position-most, localValue-nowhere, build-nowhere, expiry-nowhere, makeFresh-nowhere}
 use Rattle.endpoint.specs.Outcomes.{Gives}
 use Rattle.endpoint.specs.declared.Outcome as answers
 use Rattle.text.specs.Lines.{octetsLine, lentLine}
-use Rattle.script.specs.Instructions.{bodyRight, anew, nanoseconds, printed, roomFor, alone, called, answered, effect}
+use Rattle.script.specs.Instructions.{bodyRight, anew, nanoseconds, printed, callOf, roomFor, alone, called, toldLine, answered, effect}
 
 -- ---- bodies
 
-pub unknown : (code n : ℕ) → 9 ≤ code → bodyRight code n ≡ false
+pub unknown : (code n : ℕ) → 10 ≤ code → bodyRight code n ≡ false
 unfolding bodyRight
 unknown code n h =
-    let tests : List Bool = eqb n 0 ∷ leb 2 n ∷ leb 2 n ∷ eqb n 2 ∷ eqb n 0 ∷ leb n 2200 ∷ eqb n 0 ∷ eqb n 0 ∷ eqb n 8 ∷ [] in
+    let tests : List Bool = eqb n 0 ∷ leb 2 n ∷ leb 2 n ∷ eqb n 2 ∷ eqb n 0 ∷ leb n 2200 ∷ eqb n 0 ∷ eqb n 0 ∷ eqb n 8 ∷ leb 2 n ∷ [] in
     List·getD-eq-default tests false h
 
 beyond : (k code : ℕ) → k ≤ code → (code ≡ k → ⊥) → k + 1 ≤ code
 beyond k code h f = omega arith
 
--- a code that is none of the nine
-pub other : (code n : ℕ) → ((((((((Unit {0} × (code ≡ 0 → ⊥)) × (code ≡ 1 → ⊥)) × (code ≡ 2 → ⊥)) × (code ≡ 3 → ⊥)) × (code ≡ 4 → ⊥)) × (code ≡ 5 → ⊥)) × (code ≡ 6 → ⊥)) × (code ≡ 7 → ⊥)) × (code ≡ 8 → ⊥) → bodyRight code n ≡ false
+-- a code that is none of the ten
+pub other : (code n : ℕ) → (((((((((Unit {0} × (code ≡ 0 → ⊥)) × (code ≡ 1 → ⊥)) × (code ≡ 2 → ⊥)) × (code ≡ 3 → ⊥)) × (code ≡ 4 → ⊥)) × (code ≡ 5 → ⊥)) × (code ≡ 6 → ⊥)) × (code ≡ 7 → ⊥)) × (code ≡ 8 → ⊥)) × (code ≡ 9 → ⊥) → bodyRight code n ≡ false
 other code n r =
     let h0 : 0 ≤ code = omega arith in
-    let h1 = beyond 0 code h0 (r .0 .0 .0 .0 .0 .0 .0 .0 .1) in
-    let h2 = beyond 1 code h1 (r .0 .0 .0 .0 .0 .0 .0 .1) in
-    let h3 = beyond 2 code h2 (r .0 .0 .0 .0 .0 .0 .1) in
-    let h4 = beyond 3 code h3 (r .0 .0 .0 .0 .0 .1) in
-    let h5 = beyond 4 code h4 (r .0 .0 .0 .0 .1) in
-    let h6 = beyond 5 code h5 (r .0 .0 .0 .1) in
-    let h7 = beyond 6 code h6 (r .0 .0 .1) in
-    let h8 = beyond 7 code h7 (r .0 .1) in
-    let h9 = beyond 8 code h8 (r .1) in
-    unknown code n h9
+    let h1 = beyond 0 code h0 (r .0 .0 .0 .0 .0 .0 .0 .0 .0 .1) in
+    let h2 = beyond 1 code h1 (r .0 .0 .0 .0 .0 .0 .0 .0 .1) in
+    let h3 = beyond 2 code h2 (r .0 .0 .0 .0 .0 .0 .0 .1) in
+    let h4 = beyond 3 code h3 (r .0 .0 .0 .0 .0 .0 .1) in
+    let h5 = beyond 4 code h4 (r .0 .0 .0 .0 .0 .1) in
+    let h6 = beyond 5 code h5 (r .0 .0 .0 .0 .1) in
+    let h7 = beyond 6 code h6 (r .0 .0 .0 .1) in
+    let h8 = beyond 7 code h7 (r .0 .0 .1) in
+    let h9 = beyond 8 code h8 (r .0 .1) in
+    let h10 = beyond 9 code h9 (r .1) in
+    unknown code n h10
 
-pub known : (code n : ℕ) → bodyRight code n ≡ true → code < 9
-known code n e = at (decLe 9 code)
+pub known : (code n : ℕ) → bodyRight code n ≡ true → code < 10
+known code n e = at (decLe 10 code)
   where
-    at : Dec (9 ≤ code) → code < 9
+    at : Dec (10 ≤ code) → code < 10
     at (yes h) = absurd (false≢true (sym (unknown code n h) ∙ e))
     at (no h) = omega arith
 
@@ -74,6 +76,10 @@ module _ {code n : ℕ} (r : bodyRight code n ≡ true) where
   unfolding bodyRight
   delay-body e = eqb-true n 8 (rw e at r)
 
+nine-right : (n : ℕ) → bodyRight 9 n ≡ true → bodyRight 1 n ≡ true
+unfolding bodyRight
+nine-right n r = r
+
 -- ---- the table's rows
 
 module _ {code : ℕ} (body m room : List ℕ) where
@@ -93,15 +99,55 @@ module _ {code : ℕ} (body m room : List ℕ) where
   unfolding effect
   delay-row e = rw e
 
--- codes under 5 are calls
-pub call-row : (code : ℕ) (body m room : List ℕ) → code < 5 → effect code body m room ≡ answered (called code body m (roomFor code body room))
+-- codes under 5, and 9, are calls
+by-call : (code : ℕ) (body m room : List ℕ) → (code < 5) ⊎ (code ≡ 9)
+    → let made = callOf code in
+    effect code body m room ≡ answered code (called made body m (roomFor made body room))
 unfolding effect
-call-row zero body m room h = refl
-call-row (suc zero) body m room h = refl
-call-row (suc (suc zero)) body m room h = refl
-call-row (suc (suc (suc zero))) body m room h = refl
-call-row (suc (suc (suc (suc zero)))) body m room h = refl
-call-row (suc (suc (suc (suc (suc n))))) body m room h = absurd (omega arith)
+by-call code body m room (inr e) = rw e
+by-call zero body m room (inl h) = refl
+by-call (suc zero) body m room (inl h) = refl
+by-call (suc (suc zero)) body m room (inl h) = refl
+by-call (suc (suc (suc zero))) body m room (inl h) = refl
+by-call (suc (suc (suc (suc zero)))) body m room (inl h) = refl
+by-call (suc (suc (suc (suc (suc n))))) body m room (inl h) = absurd (omega arith)
+
+-- an instruction makes its own call, but for 9
+data Made (code made : ℕ) : Type 0 where
+  itself : made ≡ code → (code ≡ 9 → ⊥) → Made code made
+  ofNine : code ≡ 9 → made ≡ 1 → Made code made
+
+made-of : (code made : ℕ) → made ≡ callOf code → Made code made
+unfolding callOf
+made-of code made e = at (eqb code 9) refl
+  where
+    at : (b : Bool) → eqb code 9 ≡ b → Made code made
+    at true f = ofNine (eqb-true code 9 f) (e ∙ rw f)
+    at false f = itself (e ∙ rw f) (λ n. false≢true (sym f ∙ eq-eqb code 9 n))
+
+module _ (code : ℕ) {made : ℕ} (e : made ≡ callOf code) where
+  pub call-row : (body m room : List ℕ) → made < 5 → effect code body m room ≡ answered code (called made body m (roomFor made body room))
+  call-row body m room h = rw e (by-call code body m room (at (made-of code made e)))
+    where
+      at : Made code made → (code < 5) ⊎ (code ≡ 9)
+      at (itself f n) = inl (omega arith)
+      at (ofNine f g) = inr f
+
+  -- and asks for the same body
+  pub made-right : (n : ℕ) → bodyRight code n ≡ true → bodyRight made n ≡ true
+  made-right n r = at (made-of code made e)
+    where
+      at : Made code made → bodyRight made n ≡ true
+      at (itself f _) = rw f r
+      at (ofNine f g) = rw g (nine-right n (rw f at r))
+
+  -- what is no call has its own code
+  pub made-other : 5 ≤ made → (made ≡ code) × (code ≡ 9 → ⊥)
+  made-other h = at (made-of code made e)
+    where
+      at : Made code made → (made ≡ code) × (code ≡ 9 → ⊥)
+      at (itself f n) = (f, n)
+      at (ofNine f g) = absurd (omega arith)
 
 -- ---- the calls
 
@@ -144,7 +190,7 @@ module _ {code : ℕ} (body m room : List ℕ) where
 alone-room : (o : Outcome) (room : List ℕ) → RoomAfter o [] → RoomAfter (alone o room) room
 alone-room o room a = at (o .written) (a .inRoom)
   where
-    at : (w : List ℕ) → length w ≤ 0 → RoomAfter (record { number = o .number; written = w; memory = o .memory; room = room }) room
+    at : (w : List ℕ) → length w ≤ 0 → RoomAfter (record { number = o .number; position = o .position; written = w; memory = o .memory; room = room }) room
     at [] h = record { inRoom = omega arith; long = refl; after = refl }
     at (x ∷ w) h = absurd (omega arith)
 
@@ -157,4 +203,13 @@ called-room (suc (suc (suc zero))) body m room = build-room m room
 called-room (suc (suc (suc (suc n)))) body m room = alone-room (expiry m) room (expiry-room m)
 
 pub alone-gives : (o : Outcome) (room : List ℕ) {r : answers.Outcome} {m′ : List ℕ} → Gives o r m′ [] → Gives (alone o room) r m′ room
-alone-gives o room g = record { number = g .number; written = g .written; memoryIs = g .memoryIs; roomIs = refl }
+alone-gives o room g = record { number = g .number; written = g .written; position = g .position; memoryIs = g .memoryIs; roomIs = refl }
+
+-- no position that a call tells has more than four digits
+pub called-position : (code : ℕ) (body m room : List ℕ) → called code body m room .position < 10000
+unfolding called
+called-position zero body m room = omega (arith, makeFresh-nowhere m)
+called-position (suc zero) body m room = omega (arith, position-most m (drop 2 body) room)
+called-position (suc (suc zero)) body m room = omega (arith, localValue-nowhere m (at16 body 0) (drop 2 body))
+called-position (suc (suc (suc zero))) body m room = omega (arith, build-nowhere m room)
+called-position (suc (suc (suc (suc n)))) body m room = omega (arith, expiry-nowhere m)

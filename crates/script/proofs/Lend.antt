@@ -11,10 +11,9 @@ use Rattle.meaning.specs.Delay.{lowFirst, delay}
 use Rattle.meaning.specs.Calls.{Outcome}
 use Rattle.octets.specs.Writing.{Wrote}
 use Rattle.octets.proofs.Splices.{splice-front}
-use Rattle.answers.specs.Answers.{Answers}
 use Rattle.text.specs.Lines.{octetsLine, lentLine}
 use Rattle.text.proofs.Writes.{octets-short, lent-short}
-use Rattle.script.specs.Instructions.{Effect, roomLength, anew, printed, answered}
+use Rattle.script.specs.Instructions.{Effect, roomLength, anew, printed, toldLine, answered}
 use Rattle.script.specs.Takes.{Lends, Leaves}
 use Rattle.script.specs.declared.Lent.{Lent}
 
@@ -52,13 +51,13 @@ made room filled asked n e f =
 pub rest-is : (s : List ℕ) (k : ℕ) → take (length s - k) (drop k s) ≡ drop k s
 rest-is s k = take-all (length s - k) (drop k s) (simp length-drop (omega arith))
 
-pub delay-short : (n : ℕ) → length (octetsLine (delay n)) ≤ 16389
+pub delay-short : (n : ℕ) → length (octetsLine (delay n)) ≤ 16396
 unfolding delay lowFirst
 delay-short n = omega (arith, octets-short (delay n))
 
 module _ (out : List ℕ) (at : ℕ) (lent : Lent) {end : ℕ} {out′ : List ℕ} {d : Effect} (b : Lends lent) where
   -- a line alone: memory and room stay
-  pub line-left : (line m room : List ℕ) → d ≡ printed line (take (lent .memory) m) (take (lent .room) room) → Wrote out at line end out′ → length line ≤ 16389
+  pub line-left : (line m room : List ℕ) → d ≡ printed line (take (lent .memory) m) (take (lent .room) room) → Wrote out at line end out′ → length line ≤ 16396
       → length m ≡ 2200 → length room ≡ 8192 → Leaves d m room out at end lent m room out′
   line-left line m room e w s l k =
       rw e
@@ -71,17 +70,17 @@ module _ (out : List ℕ) (at : ℕ) (lent : Lent) {end : ℕ} {out′ : List �
       })
 
   -- a call
-  pub call-left : (o : Outcome) (m′ m room′ room room₁ last : List ℕ) → d ≡ answered o → Answers o out at end m′ room′ out′ → end ≤ at + 16389
-      → length m ≡ 2200 → Wrote room 0 last (lent .room) room₁ → length m′ ≡ lent .memory → length room′ ≡ lent .room
+  pub call-left : (code : ℕ) (o : Outcome) (m′ m room′ room room₁ last : List ℕ) → d ≡ answered code o → Wrote out at (toldLine code o) end out′ → m′ ≡ o .memory → room′ ≡ o .room
+      → end ≤ at + 16396 → length m ≡ 2200 → Wrote room 0 last (lent .room) room₁ → length m′ ≡ lent .memory → length room′ ≡ lent .room
       → Leaves d m room out at end lent (m′ ++ drop (lent .memory) m) (room′ ++ drop (lent .room) room₁) out′
-  call-left o m′ m room′ room room₁ last e a s n f l k =
+  call-left code o m′ m room′ room room₁ last e w i j s n f l k =
       rw e
       (record {
-        wrote = a .wrote;
+        wrote = w;
         short = s;
         lends = b;
-        memoryIs = rw (← a .memoryIs) (front-back m (take (lent .memory) m) m′ (front-kept m (lent .memory) (omega (arith, n, b .0))) l);
-        roomIs = rw (← a .roomIs) (front-back room last room′ f k);
+        memoryIs = rw (← i) (front-back m (take (lent .memory) m) m′ (front-kept m (lent .memory) (omega (arith, n, b .0))) l);
+        roomIs = rw (← j) (front-back room last room′ f k);
       })
 
   -- other memory

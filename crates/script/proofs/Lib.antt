@@ -1,3 +1,4 @@
 -- Laws of instructions: their codes and calls, and what is left in the arrays.
 pub mod Codes
 pub mod Lend
+pub mod Told

@@ -8,7 +8,7 @@ use Rattle.meaning.specs.Octets.{at16, at32}
 use Rattle.meaning.specs.Delay.{delay}
 use Rattle.meaning.specs.Calls.{Outcome, makeFresh, message, localValue, build, expiry}
 use Rattle.text.specs.Lines.{octetsLine, lentLine}
-use Rattle.answers.specs.Answers.{lineOf}
+use Rattle.answers.specs.Answers.{lineOf, fullOf}
 
 -- the length of a body, by the instruction's code; no other code is known
 unfoldable pub bodyRight : ℕ → ℕ → Bool
@@ -23,6 +23,7 @@ bodyRight code n =
     ∷ eqb n 0  -- 06 show memory
     ∷ eqb n 0  -- 07 show the room of the last message or notification
     ∷ eqb n 8  -- 08 delay conversion: nanoseconds (8)
+    ∷ leb 2 n  -- 09 message, told in full: room length (2), message
     ∷ []) code false
 
 -- a room made anew: at most 8,192 octets, each A5
@@ -45,7 +46,11 @@ pub record Effect : Type 0 where
 abbrev pub printed : List ℕ → List ℕ → List ℕ → Effect
 printed line m room = record { line = line; memory = m; room = room }
 
--- ---- 00 to 04: the calls
+-- ---- 00 to 04, and 09: the calls
+
+-- the code of the call that an instruction makes: 09 makes that of 01
+unfoldable pub callOf : ℕ → ℕ
+callOf code = cond (eqb code 9) 1 code
 
 -- the room of a call: made anew where its instruction asks for one, else that of the last
 unfoldable pub roomFor : ℕ → List ℕ → List ℕ → List ℕ
@@ -55,7 +60,7 @@ roomFor code body room =
 
 -- a call that is lent no room leaves it as it is
 abbrev pub alone : Outcome → List ℕ → Outcome
-alone o room = record { number = o .number; written = o .written; memory = o .memory; room = room }
+alone o room = record { number = o .number; position = o .position; written = o .written; memory = o .memory; room = room }
 
 -- the calls by code, over memory and such a room
 unfoldable pub called : ℕ → List ℕ → List ℕ → List ℕ → Outcome
@@ -70,15 +75,20 @@ called code body m room =
     code
     (alone (expiry m) room)
 
--- an outcome's line, and what it leaves
-abbrev pub answered : Outcome → Effect
-answered o = printed (lineOf o) (o .memory) (o .room)
+-- an outcome's line, by the instruction's code: 09 tells it in full
+unfoldable pub toldLine : ℕ → Outcome → List ℕ
+toldLine code o = cond (eqb code 9) (fullOf o) (lineOf o)
+
+-- that line, and what the outcome leaves
+abbrev pub answered : ℕ → Outcome → Effect
+answered code o = printed (toldLine code o) (o .memory) (o .room)
 
 -- ---- every code, as above; one that is not known does nothing
 
 unfoldable pub effect : ℕ → List ℕ → List ℕ → List ℕ → Effect
 effect code body m room =
-    let call = answered (called code body m (roomFor code body room)) in
+    let made = callOf code in
+    let call = answered code (called made body m (roomFor made body room)) in
     getD
     (call
     ∷ call
@@ -89,6 +99,7 @@ effect code body m room =
     ∷ printed (octetsLine m) m room
     ∷ printed (octetsLine room) m room
     ∷ printed (octetsLine (delay (nanoseconds body))) m room
+    ∷ call
     ∷ [])
     code
     (printed [] m room)

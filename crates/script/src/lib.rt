@@ -6,10 +6,10 @@ ghost use mathlib.Core.Bool.{true};
 ghost use lib.ListN.{length, take};
 ghost use Rattle.meaning.specs.Delay.{delay};
 ghost use Rattle.octets.specs.Writing.{Wrote};
-ghost use Rattle.endpoint.specs.Outcomes.{Gives};
+ghost use Rattle.endpoint.specs.Outcomes.{lengthOf, positionOf, Gives};
 ghost use Rattle.text.specs.Lines.{octetsLine};
-ghost use Rattle.script.specs.Instructions.{bodyRight, roomLength, anew, roomFor, called, nanoseconds};
-ghost use Rattle.script.specs.Takes.{Ready, Takes};
+ghost use Rattle.script.specs.Instructions.{bodyRight, roomLength, anew, roomFor, callOf, called, nanoseconds};
+ghost use Rattle.script.specs.Takes.{toldAnswer, Ready, Takes};
 
 // Most octets that can be lent as memory.
 pub const MOST_LENT: usize = 2200;
@@ -19,6 +19,10 @@ pub const MOST_ROOM: usize = 8192;
 const HIGH: u64 = 1 << 32;
 // What a room made anew holds.
 const ROOM_FILL: u8 = 0xA5;
+// The codes of a message, and of one that is told in full.
+const MESSAGE: u8 = 1;
+
+const IN_FULL: u8 = 9;
 
 // How many octets are lent as memory, and how many the room of the last message or notification has.
 pub struct Lent {
@@ -46,6 +50,7 @@ fn body_right(code: u8, n: usize) -> bool
         6 => n == 0,
         7 => n == 0,
         8 => n == 8,
+        9 => 2 <= n,
         _ => false,
     }
 }
@@ -85,6 +90,16 @@ fn room_for(room: &mut [u8], last: usize, code: u8, body: &[u8]) -> usize
     }
 }
 
+// The code of the call that an instruction makes: a message that is told in full is a message.
+fn call_of(code: u8) -> u8
+    ensures { λ r. ⌜ r ≡ callOf code ⌝ }
+{
+    if code == IN_FULL {
+        return MESSAGE;
+    }
+    code
+}
+
 // The calls over memory, by their instructions' codes.
 fn call(memory: &mut [u8], room: &mut [u8], code: u8, body: &[u8]) -> endpoint::Outcome
     requires { ⌜ (bodyRight code (length (now body)) ≡ true) × (code < 5) ⌝ }
@@ -97,6 +112,23 @@ fn call(memory: &mut [u8], room: &mut [u8], code: u8, body: &[u8]) -> endpoint::
         3 => endpoint::build(memory, room),
         _ => endpoint::expiry(memory),
     }
+}
+
+// The line of a call's outcome, by its instruction's code.
+fn write_answer(
+    out: &mut [u8],
+    at: usize,
+    code: u8,
+    outcome: endpoint::Outcome,
+    room: &[u8],
+) -> usize
+    requires { ⌜ (lengthOf outcome ≤ length (now room)) × (positionOf outcome < 10000) × (at + (length (now room) + length (now room) + 12) ≤ length (now out)) ⌝ }
+    ensures { λ r. ⌜ Wrote (now (out .entry)) at (toldAnswer code outcome (now (room .entry))) r (now (out .exit)) ⌝ }
+{
+    if code == IN_FULL {
+        return answers::write_in_full(out, at, outcome, room);
+    }
+    answers::write_outcome(out, at, outcome, room)
 }
 
 // The line of a delay, from its nanoseconds.
@@ -119,7 +151,7 @@ fn take_other(
     out: &mut [u8],
     at: usize,
 ) -> Took
-    requires { ⌜ Ready (now memory) (now room) lent (now out) at × (bodyRight code (length (now body)) ≡ true) × (5 ≤ code) ⌝ }
+    requires { ⌜ Ready (now memory) (now room) lent (now out) at × (bodyRight code (length (now body)) ≡ true) × (5 ≤ code) × (code < 9) ⌝ }
     ensures { λ r. ⌜ Takes code (now (body .entry)) (now (memory .entry)) (now (room .entry)) lent (now (out .entry)) at r (now (memory .exit)) (now (room .entry)) (now (out .exit)) ⌝ }
 {
     let m = lent.memory;
@@ -152,12 +184,13 @@ pub fn take_instruction(
     if !body_right(code, body.len()) {
         return Took::Faulty;
     }
-    if 5 <= code {
+    let made = call_of(code);
+    if 5 <= made {
         return take_other(memory, room, lent, code, body, out, at);
     }
     let m = lent.memory;
-    let n = room_for(room, lent.room, code, body);
-    let outcome = call(&mut memory[..m], &mut room[..n], code, body);
-    let end = answers::write_outcome(out, at, outcome, &room[..n]);
+    let n = room_for(room, lent.room, made, body);
+    let outcome = call(&mut memory[..m], &mut room[..n], made, body);
+    let end = write_answer(out, at, code, outcome, &room[..n]);
     Took::Line(end, Lent { memory: m, room: n })
 }

@@ -13,7 +13,7 @@ use borrow.Author.Tests.{ltb-true, ltb-false, lt-ltb, le-ltb}
 use Rattle.meaning.specs.Octets.{splice}
 use Rattle.meaning.proofs.Lists.{splice-length}
 use Rattle.octets.proofs.Splices.{splice-nil, one-store, two-stores, splice-splice, then}
-use Rattle.text.specs.Lines.{digit, hex, decimal, shownOctets, octetsLine, line, longDecimal, lentLine}
+use Rattle.text.specs.Lines.{digit, hex, decimal, shownOctets, octetsLine, line, longDecimal, lentLine, field, fullLine}
 
 -- 39 is what lies between the characters after `9` and `a`; 255 times 1 has all of its bits, 255 times 0 none
 pub digit-is : (d : ℕ) → d < 16 → d + 48 + bitAnd ((d + 6) / 16 * 255) 39 ≡ digit d
@@ -175,3 +175,36 @@ lent-written out₀ out₁ out₂ at n p q h ep e₁ eq e₂ =
     let n₁ : length (w ++ d) ≡ 5 + length d = simp length-append in
     let s₂ = then-one out₀ (w ++ d) at q 10 (omega arith) (omega arith) s₁ in
     (s₂ .0 ∙ ap (λ (l : List ℕ). at + length l) (append-assoc w d (10 ∷ [])), s₂ .1 ∙ ap (splice out₀ at) (append-assoc w d (10 ∷ [])))
+
+-- ---- a line told in full
+
+pub field-short : (n : ℕ) → length (field n) ≤ 5
+unfolding field
+field-short n = simp length-append (omega (arith, long-short n))
+
+pub full-short : (n p : ℕ) (s : List ℕ) → length (fullLine n p s) ≤ length s + length s + 12
+unfolding fullLine
+full-short n p s = simp length-append (omega (arith, field-short n, field-short p, octets-short s))
+
+-- the number and the space behind it
+pub field-written : (out₀ : List ℕ) (at n p : ℕ) {out₁ : List ℕ} → at + 5 ≤ length out₀ → p ≡ at + length (longDecimal n) → out₁ ≡ splice out₀ at (longDecimal n)
+    → (p + 1 ≡ at + length (field n)) × (set out₁ p 32 ≡ splice out₀ at (field n))
+unfolding field
+field-written out₀ at n p h e e₁ = then-one out₀ (longDecimal n) at p 32 (omega (arith, long-short n)) e e₁
+
+-- two fields, and the octets behind them
+pub full-written : (out₀ out₁ out₂ out₃ src : List ℕ) (at n k p q r : ℕ) → at + (length src + length src + 12) ≤ length out₀
+    → p ≡ at + length (field n) → out₁ ≡ splice out₀ at (field n) → q ≡ p + length (field k) → out₂ ≡ splice out₁ p (field k)
+    → r ≡ q + length (octetsLine src) → out₃ ≡ splice out₂ q (octetsLine src)
+    → (r ≡ at + length (fullLine n k src)) × (out₃ ≡ splice out₀ at (fullLine n k src))
+unfolding fullLine
+full-written out₀ out₁ out₂ out₃ src at n k p q r h ep e₁ eq e₂ er e₃ =
+    let a = field n in
+    let b = field k in
+    let v = octetsLine src in
+    let al = field-short n in
+    let bl = field-short k in
+    let s₂ : out₂ ≡ splice out₀ at (a ++ b) = then out₀ a b at p (omega arith) ep e₁ e₂ in
+    let n₂ : length (a ++ b) ≡ length a + length b = simp length-append in
+    let s₃ : out₃ ≡ splice out₀ at (a ++ b ++ v) = then out₀ (a ++ b) v at q (omega arith) (omega arith) s₂ e₃ in
+    (simp length-append (omega arith), simp append-assoc at s₃)

@@ -36,3 +36,11 @@ longDecimal n = cond (ltb n 100) (decimal n) (decimal (n / 100) ++ (digit (n / 1
 -- `lent`, a space, a number
 unfoldable pub lentLine : ℕ → List ℕ
 lentLine n = (108 ∷ 101 ∷ 110 ∷ 116 ∷ 32 ∷ []) ++ (longDecimal n ++ (10 ∷ []))
+
+-- a number under 10,000 and a space
+unfoldable pub field : ℕ → List ℕ
+field n = longDecimal n ++ (32 ∷ [])
+
+-- a line told in full: a number, a position, octets
+unfoldable pub fullLine : ℕ → ℕ → List ℕ → List ℕ
+fullLine n p s = field n ++ (field p ++ octetsLine s)

@@ -4,7 +4,7 @@ ghost use Prim.Native.Nat.{_+_, _≤_, _<_};
 ghost use mathlib.Core.Path.{_≡_};
 ghost use lib.ListN.{length};
 ghost use Rattle.octets.specs.Writing.{Wrote};
-ghost use Rattle.text.specs.Lines.{digit as Lines·digit, hex, decimal, shownOctets, octetsLine, line, longDecimal, lentLine};
+ghost use Rattle.text.specs.Lines.{digit as Lines·digit, hex, decimal, shownOctets, octetsLine, line, longDecimal, lentLine, field, fullLine};
 
 // The character of a digit: 39 more for a letter, taken from all bits of an octet or from none. With a quotient by 10 or a
 // test, LLVM puts branches into the loop over it.
@@ -101,4 +101,30 @@ pub fn write_lent(out: &mut [u8], at: usize, lent: usize) -> usize
     let end = write_long_decimal(out, number, lent);
     out[end] = b'\n';
     end + 1
+}
+
+// A number under 10,000 and a space.
+fn write_field(out: &mut [u8], at: usize, number: usize) -> usize
+    requires { ⌜ (number < 10000) × (at + 5 ≤ length (now out)) ⌝ }
+    ensures { λ r. ⌜ Wrote (now (out .entry)) at (field number) r (now (out .exit)) ⌝ }
+{
+    let end = write_long_decimal(out, at, number);
+    out[end] = b' ';
+    end + 1
+}
+
+// A line told in full: a number, a position, octets.
+pub fn write_full_line(
+    out: &mut [u8],
+    at: usize,
+    number: usize,
+    position: usize,
+    reply: &[u8],
+) -> usize
+    requires { ⌜ (number < 10000) × (position < 10000) × (at + (length (now reply) + length (now reply) + 12) ≤ length (now out)) ⌝ }
+    ensures { λ r. ⌜ Wrote (now (out .entry)) at (fullLine number position (now (reply .entry))) r (now (out .exit)) ⌝ }
+{
+    let second = write_field(out, at, number);
+    let third = write_field(out, second, position);
+    write_octets(out, third, reply)
 }

@@ -6,7 +6,7 @@ use borrow.Author.Needs.{needs}
 use Rattle.meaning.specs.Memory.{waiting, setTimer}
 use Rattle.meaning.proofs.Tests.{denied, affirmed}
 use Rattle.command.proofs.Sets.{long-of}
-use Rattle.endpoint.specs.Outcomes.{numberOf, lengthOf}
+use Rattle.endpoint.specs.Outcomes.{numberOf, lengthOf, positionOf}
 use Rattle.endpoint.specs.declared.Outcome.the-variants.{Idle, ReplyDoesNotFit}
 use Rattle.endpoint.proofs.Exits.{gives-number, gives-done, acknowledgement-8, acknowledgement-7, acknowledgement-fits, first-set}
 use Rattle.endpoint.proofs.acknowledge.Statement.{statement}
@@ -22,19 +22,19 @@ same-length : tie.Need-same-length
 same-length c = search needs
 
 returns : tie.Need-returns
-unfolding numberOf lengthOf
+unfolding numberOf lengthOf positionOf
 returns c =
     let a = c .before .before .before .before .before .args in
-    gives-number (a .memory .now) (a .room .now) 8 Idle (acknowledgement-8 (a .memory .now) (a .room .now) (sym (c .before .waiting .ensures) ∙ denied _ (c .if1 .taken))) refl refl
+    gives-number (a .memory .now) (a .room .now) 8 Idle (acknowledgement-8 (a .memory .now) (a .room .now) (sym (c .before .waiting .ensures) ∙ denied _ (c .if1 .taken))) refl refl refl
 
 same-length-2 : tie.Need-same-length-2
 same-length-2 c = search needs
 
 returns-2 : tie.Need-returns-2
-unfolding numberOf lengthOf
+unfolding numberOf lengthOf positionOf
 returns-2 c =
     let a = c .before .before .before .before .before .before .args in
-    gives-number (a .memory .now) (a .room .now) 7 ReplyDoesNotFit (acknowledgement-7 (a .memory .now) (a .room .now) (waits (c .before)) (c .if2 .taken)) refl refl
+    gives-number (a .memory .now) (a .room .now) 7 ReplyDoesNotFit (acknowledgement-7 (a .memory .now) (a .room .now) (waits (c .before)) (c .if2 .taken)) refl refl refl
 
 slice-write-room : tie.Need-slice-write-room
 slice-write-room c = search needs

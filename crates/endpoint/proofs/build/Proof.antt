@@ -15,7 +15,7 @@ use Rattle.meaning.proofs.Sound.{opened}
 use Rattle.meaning.proofs.Numbers.{build-1, build-11, build-10}
 use Rattle.records.proofs.Pieces.{at-start}
 use Rattle.notification.proofs.Reported.{due-small, none-counted, some-counted}
-use Rattle.endpoint.specs.Outcomes.{numberOf, lengthOf}
+use Rattle.endpoint.specs.Outcomes.{numberOf, lengthOf, positionOf}
 use Rattle.endpoint.specs.declared.Outcome.the-variants.{MemoryUnsound, NotificationRoomTooSmall, AlreadyWaiting, NothingPending}
 use Rattle.endpoint.proofs.Exits.{gives-done, gives-number, build-nothing}
 use Rattle.endpoint.proofs.build.Statement.{statement}
@@ -34,19 +34,19 @@ same-length : tie.Need-same-length
 same-length c = search needs
 
 returns : tie.Need-returns
-unfolding numberOf lengthOf
+unfolding numberOf lengthOf positionOf
 returns c =
     let a = c .before .before .before .before .before .args in
-    gives-number (a .memory .now) (a .room .now) 1 MemoryUnsound (build-1 (a .memory .now) (a .room .now) (sym (c .before .sound .ensures) ∙ denied _ (c .if1 .taken))) refl refl
+    gives-number (a .memory .now) (a .room .now) 1 MemoryUnsound (build-1 (a .memory .now) (a .room .now) (sym (c .before .sound .ensures) ∙ denied _ (c .if1 .taken))) refl refl refl
 
 same-length-2 : tie.Need-same-length-2
 same-length-2 c = search needs
 
 returns-2 : tie.Need-returns-2
-unfolding numberOf lengthOf
+unfolding numberOf lengthOf positionOf
 returns-2 c =
     let a = c .before .before .before .before .before .before .args in
-    gives-number (a .memory .now) (a .room .now) 11 NotificationRoomTooSmall (build-11 (a .memory .now) (a .room .now) (tested (c .before)) (c .if2 .taken)) refl refl
+    gives-number (a .memory .now) (a .room .now) 11 NotificationRoomTooSmall (build-11 (a .memory .now) (a .room .now) (tested (c .before)) (c .if2 .taken)) refl refl refl
 
 waiting-requires : tie.Need-waiting-requires
 waiting-requires c κs = opened _ (tested (c .before .before)) .long
@@ -55,10 +55,10 @@ same-length-3 : tie.Need-same-length-3
 same-length-3 c = search needs
 
 returns-3 : tie.Need-returns-3
-unfolding numberOf lengthOf
+unfolding numberOf lengthOf positionOf
 returns-3 c =
     let a = c .before .before .before .before .before .before .before .before .before .args in
-    gives-number (a .memory .now) (a .room .now) 10 AlreadyWaiting (build-10 (a .memory .now) (a .room .now) (tested (c .before .before .before .before)) (c .before .before .before .if2 .left) (sym (c .before .waiting .ensures) ∙ c .if3 .taken)) refl refl
+    gives-number (a .memory .now) (a .room .now) 10 AlreadyWaiting (build-10 (a .memory .now) (a .room .now) (tested (c .before .before .before .before)) (c .before .before .before .if2 .left) (sym (c .before .waiting .ensures) ∙ c .if3 .taken)) refl refl refl
 
 count-requires : tie.Need-count-requires
 count-requires c κs = opened _ (tested (c .before .before .before .before .before)) .long
@@ -74,13 +74,13 @@ same-length-4 : tie.Need-same-length-4
 same-length-4 c = search needs
 
 returns-4 : tie.Need-returns-4
-unfolding numberOf lengthOf
+unfolding numberOf lengthOf positionOf
 returns-4 c =
     let n = c .before .before .count in
     let k = c .before .before .before .before in
     let a = k .before .before .before .before .before .before .before .before .before .args in
     gives-number (a .memory .now) (a .room .now) 9 NothingPending
-    (build-nothing (a .memory .now) (a .room .now) (tested (k .before .before .before .before)) (k .before .before .before .if2 .left) (idle k) (none-counted (a .memory .now) (n .result) (n .ensures) (c .if4 .taken))) refl refl
+    (build-nothing (a .memory .now) (a .room .now) (tested (k .before .before .before .before)) (k .before .before .before .if2 .left) (idle k) (none-counted (a .memory .now) (n .result) (n .ensures) (c .if4 .taken))) refl refl refl
 
 write-requires : tie.Need-write-requires
 write-requires c κs =

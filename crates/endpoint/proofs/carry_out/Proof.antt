@@ -15,7 +15,7 @@ use Rattle.command.proofs.Sets.{long-of}
 use Rattle.command.proofs.Unchanged.{after-unchanged}
 use Rattle.tally.specs.Tallies.{replyLength, tallyFits}
 use Rattle.tally.proofs.Lengths.{reply-length, tally-fits}
-use Rattle.endpoint.specs.Outcomes.{numberOf, lengthOf}
+use Rattle.endpoint.specs.Outcomes.{numberOf, lengthOf, positionOf}
 use Rattle.endpoint.specs.declared.Outcome.the-variants.{ReplyDoesNotFit}
 use Rattle.endpoint.proofs.Exits.{gives-number, gives-done, command-fits, command-7}
 use Rattle.endpoint.proofs.carry_out.Statement.{statement}
@@ -80,10 +80,10 @@ same-length : tie.Need-same-length
 same-length c = search needs
 
 returns : tie.Need-returns
-unfolding numberOf lengthOf
+unfolding numberOf lengthOf positionOf
 returns c =
     let s = start (c .before) in
-    gives-number (memory s) (room s) 7 ReplyDoesNotFit (command-7 (memory s) (s .args .list .now) (room s) (tested (c .before) ∙ denied _ (c .if1 .taken))) refl refl
+    gives-number (memory s) (room s) 7 ReplyDoesNotFit (command-7 (memory s) (s .args .list .now) (room s) (tested (c .before) ∙ denied _ (c .if1 .taken))) refl refl refl
 
 slice-aggregate-write : tie.Need-slice-aggregate-write
 slice-aggregate-write c = search needs

@@ -10,7 +10,7 @@ use Rattle.meaning.proofs.Tests.{denied, affirmed}
 use Rattle.meaning.proofs.Sound.{opened}
 use Rattle.meaning.proofs.Numbers.{expiry-1, expiry-8}
 use Rattle.meaning.proofs.Timer.{expiry-again, expiry-given-up}
-use Rattle.endpoint.specs.Outcomes.{numberOf, lengthOf}
+use Rattle.endpoint.specs.Outcomes.{numberOf, lengthOf, positionOf}
 use Rattle.endpoint.specs.declared.Outcome.the-variants.{MemoryUnsound, Idle, SendAgain, GivenUp}
 use Rattle.endpoint.proofs.Exits.{gives-number, gives-left, counted-on}
 use Rattle.endpoint.proofs.expiry.Statement.{statement}
@@ -29,10 +29,10 @@ same-length : tie.Need-same-length
 same-length c = search needs
 
 returns : tie.Need-returns
-unfolding numberOf lengthOf
+unfolding numberOf lengthOf positionOf
 returns c =
     let m = c .before .before .before .before .args .memory .now in
-    gives-number m [] 1 MemoryUnsound (expiry-1 m (sym (c .before .sound .ensures) ∙ denied _ (c .if1 .taken))) refl refl
+    gives-number m [] 1 MemoryUnsound (expiry-1 m (sym (c .before .sound .ensures) ∙ denied _ (c .if1 .taken))) refl refl refl
 
 waiting-requires : tie.Need-waiting-requires
 waiting-requires c κs = opened _ (tested (c .before)) .long
@@ -41,10 +41,10 @@ same-length-2 : tie.Need-same-length-2
 same-length-2 c = search needs
 
 returns-2 : tie.Need-returns-2
-unfolding numberOf lengthOf
+unfolding numberOf lengthOf positionOf
 returns-2 c =
     let m = c .before .before .before .before .before .before .before .args .memory .now in
-    gives-number m [] 8 Idle (expiry-8 m (tested (c .before .before .before)) (sym (c .before .waiting .ensures) ∙ denied _ (c .if2 .taken))) refl refl
+    gives-number m [] 8 Idle (expiry-8 m (tested (c .before .before .before)) (sym (c .before .waiting .ensures) ∙ denied _ (c .if2 .taken))) refl refl refl
 
 expiries-requires : tie.Need-expiries-requires
 expiries-requires c κs = opened _ (tested (c .before .before .before .before)) .long
@@ -59,13 +59,13 @@ same-length-3 : tie.Need-same-length-3
 same-length-3 c = search needs
 
 returns-3 : tie.Need-returns-3
-unfolding numberOf lengthOf
+unfolding numberOf lengthOf positionOf
 returns-3 c =
     let t = c .before .before .before .before in
     let e = t .before .expiries .ensures in
     let k = t .before .before .before in
     let m = k .before .before .before .before .before .before .before .args .memory .now in
-    gives-left (setTimer m 1 (expiries m + 1)) 20 SendAgain (expiry-again m (tested (k .before .before .before)) (waits k) (omega (arith, e, t .if3 .taken))) refl refl
+    gives-left (setTimer m 1 (expiries m + 1)) 20 SendAgain (expiry-again m (tested (k .before .before .before)) (waits k) (omega (arith, e, t .if3 .taken))) refl refl refl
     (counted-on m e (c .before .before .set-timer .ensures))
 
 set-timer-requires-2 : tie.Need-set-timer-requires-2
@@ -75,13 +75,13 @@ same-length-4 : tie.Need-same-length-4
 same-length-4 c = search needs
 
 returns-4 : tie.Need-returns-4
-unfolding numberOf lengthOf
+unfolding numberOf lengthOf positionOf
 returns-4 c =
     let t = c .before .before .before .before in
     let e = t .before .expiries .ensures in
     let k = t .before .before .before in
     let m = k .before .before .before .before .before .before .before .args .memory .now in
-    gives-left (setTimer m 0 0) 21 GivenUp (expiry-given-up m (tested (k .before .before .before)) (waits k) (omega (arith, e, t .if3 .left))) refl refl (c .before .before .set-timer2 .ensures)
+    gives-left (setTimer m 0 0) 21 GivenUp (expiry-given-up m (tested (k .before .before .before)) (waits k) (omega (arith, e, t .if3 .left))) refl refl refl (c .before .before .set-timer2 .ensures)
 
 pub expiry-spec : {M : Type 1} → statement M
 expiry-spec =

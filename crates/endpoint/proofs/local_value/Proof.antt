@@ -9,7 +9,7 @@ use Rattle.meaning.proofs.Tests.{denied, affirmed}
 use Rattle.meaning.proofs.Sound.{opened}
 use Rattle.meaning.proofs.Numbers.{localValue-1, localValue-12}
 use Rattle.local.proofs.Values.{permitted-place}
-use Rattle.endpoint.specs.Outcomes.{numberOf, lengthOf}
+use Rattle.endpoint.specs.Outcomes.{numberOf, lengthOf, positionOf}
 use Rattle.endpoint.specs.declared.Outcome.the-variants.{Done, MemoryUnsound, NotPermitted}
 use Rattle.endpoint.proofs.Exits.{gives-number, gives-left, local-does}
 use Rattle.endpoint.proofs.local_value.Statement.{statement}
@@ -28,10 +28,10 @@ same-length : tie.Need-same-length
 same-length c = search needs
 
 returns : tie.Need-returns
-unfolding numberOf lengthOf
+unfolding numberOf lengthOf positionOf
 returns c =
     let a = c .before .before .before .before .before .args in
-    gives-number (a .memory .now) [] 1 MemoryUnsound (localValue-1 (a .memory .now) (a .name) (a .value .now) (sym (c .before .sound .ensures) ∙ denied _ (c .if1 .taken))) refl refl
+    gives-number (a .memory .now) [] 1 MemoryUnsound (localValue-1 (a .memory .now) (a .name) (a .value .now) (sym (c .before .sound .ensures) ∙ denied _ (c .if1 .taken))) refl refl refl
 
 permitted-requires : tie.Need-permitted-requires
 permitted-requires c κs = search needs
@@ -40,10 +40,10 @@ same-length-2 : tie.Need-same-length-2
 same-length-2 c = search needs
 
 returns-2 : tie.Need-returns-2
-unfolding numberOf lengthOf
+unfolding numberOf lengthOf positionOf
 returns-2 c =
     let a = c .before .before .before .before .before .before .before .args in
-    gives-number (a .memory .now) [] 12 NotPermitted (localValue-12 (a .memory .now) (a .name) (a .value .now) (tested (c .before .before)) (sym (c .before .permitted .ensures) ∙ denied _ (c .if2 .taken))) refl refl
+    gives-number (a .memory .now) [] 12 NotPermitted (localValue-12 (a .memory .now) (a .name) (a .value .now) (tested (c .before .before)) (sym (c .before .permitted .ensures) ∙ denied _ (c .if2 .taken))) refl refl refl
 
 place-of-requires : tie.Need-place-of-requires
 place-of-requires c κs = search needs
@@ -59,13 +59,13 @@ same-length-3 : tie.Need-same-length-3
 same-length-3 c = search needs
 
 returns-3 : tie.Need-returns-3
-unfolding numberOf lengthOf
+unfolding numberOf lengthOf positionOf
 returns-3 c =
     let p = c .before .before .before in
     let k = p .before .before in
     let a = k .before .before .before .before .before .before .before .args in
     gives-left (localMemory (a .memory .now) (p .place-of .result) (a .value .now)) 0 (Done 0)
-    (local-does (a .memory .now) (a .name) _ (a .value .now) (p .place-of .ensures) (tested (k .before .before)) (may k)) refl refl (c .before .before .store .ensures)
+    (local-does (a .memory .now) (a .name) _ (a .value .now) (p .place-of .ensures) (tested (k .before .before)) (may k)) refl refl refl (c .before .before .store .ensures)
 
 pub local-value-spec : {M : Type 1} → statement M
 local-value-spec =

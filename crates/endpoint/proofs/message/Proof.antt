@@ -6,7 +6,7 @@ use borrow.Author.Needs.{needs}
 use Rattle.meaning.specs.Memory.{sound}
 use Rattle.meaning.proofs.Tests.{denied, affirmed}
 use Rattle.meaning.proofs.Numbers.{Taken, message-1, message-2, message-3, message-4}
-use Rattle.endpoint.specs.Outcomes.{numberOf, lengthOf}
+use Rattle.endpoint.specs.Outcomes.{numberOf, lengthOf, positionOf}
 use Rattle.endpoint.specs.declared.Outcome.the-variants.{MemoryUnsound, MessageEmpty, MessageTooLong, TypeUnknown}
 use Rattle.endpoint.proofs.Exits.{gives-number, message-acknowledgement}
 use Rattle.endpoint.proofs.message.Statement.{statement}
@@ -25,28 +25,28 @@ same-length : tie.Need-same-length
 same-length c = search needs
 
 returns : tie.Need-returns
-unfolding numberOf lengthOf
+unfolding numberOf lengthOf positionOf
 returns c =
     let a = c .before .before .before .before .before .before .args in
-    gives-number (a .memory .now) (a .room .now) 1 MemoryUnsound (message-1 (a .memory .now) (a .sent .now) (a .room .now) (sym (c .before .sound .ensures) ∙ denied _ (c .if1 .taken))) refl refl
+    gives-number (a .memory .now) (a .room .now) 1 MemoryUnsound (message-1 (a .memory .now) (a .sent .now) (a .room .now) (sym (c .before .sound .ensures) ∙ denied _ (c .if1 .taken))) refl refl refl
 
 same-length-2 : tie.Need-same-length-2
 same-length-2 c = search needs
 
 returns-2 : tie.Need-returns-2
-unfolding numberOf lengthOf
+unfolding numberOf lengthOf positionOf
 returns-2 c =
     let a = c .before .before .before .before .before .before .before .args in
-    gives-number (a .memory .now) (a .room .now) 2 MessageEmpty (message-2 (a .memory .now) (a .sent .now) (a .room .now) (tested (c .before)) (omega (arith, c .if2 .taken))) refl refl
+    gives-number (a .memory .now) (a .room .now) 2 MessageEmpty (message-2 (a .memory .now) (a .sent .now) (a .room .now) (tested (c .before)) (omega (arith, c .if2 .taken))) refl refl refl
 
 same-length-3 : tie.Need-same-length-3
 same-length-3 c = search needs
 
 returns-3 : tie.Need-returns-3
-unfolding numberOf lengthOf
+unfolding numberOf lengthOf positionOf
 returns-3 c =
     let a = c .before .before .before .before .before .before .before .before .args in
-    gives-number (a .memory .now) (a .room .now) 3 MessageTooLong (message-3 (a .memory .now) (a .sent .now) (a .room .now) (tested (c .before .before)) (c .if3 .taken)) refl refl
+    gives-number (a .memory .now) (a .room .now) 3 MessageTooLong (message-3 (a .memory .now) (a .sent .now) (a .room .now) (tested (c .before .before)) (c .if3 .taken)) refl refl refl
 
 shared-slice-read-match : tie.Need-shared-slice-read-match
 shared-slice-read-match c = search needs
@@ -85,11 +85,11 @@ same-length-8 : tie.Need-same-length-8
 same-length-8 c = search needs
 
 returns-6 : tie.Need-returns-6
-unfolding numberOf lengthOf
+unfolding numberOf lengthOf positionOf
 returns-6 c =
     let k = c .before .before in
     let a = k .before .before .before .before .before .before .before .before .args in
-    gives-number (a .memory .now) (a .room .now) 4 TypeUnknown (message-4 (a .memory .now) (a .sent .now) (a .room .now) (taken k) (c .match .rest .0 .1) (c .match .rest .1)) refl refl
+    gives-number (a .memory .now) (a .room .now) 4 TypeUnknown (message-4 (a .memory .now) (a .sent .now) (a .room .now) (taken k) (c .match .rest .0 .1) (c .match .rest .1)) refl refl refl
 
 pub message-spec : {M : Type 1} → statement M
 message-spec =

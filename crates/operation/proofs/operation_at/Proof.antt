@@ -12,11 +12,14 @@ returns c = past _ _ (c .if1 .taken)
 sub-left : tie.Need-sub-left
 sub-left c = search needs
 
+add-position : tie.Need-add-position
+add-position c = search needs
+
 shared-slice-read-code : tie.Need-shared-slice-read-code
 shared-slice-read-code c = search needs
 
-add-t14 : tie.Need-add-t14
-add-t14 c = search needs
+add-t15 : tie.Need-add-t15
+add-t15 c = search needs
 
 returns-2 : tie.Need-returns-2
 returns-2 c =
@@ -55,14 +58,14 @@ returns-5 c =
     let z = c .before .get162 in
     value-cut _ _ (e .if1 .left) (z .result) (i .if4 .taken) (z .ensures .0) (omega (arith, c .if6 .taken))
 
-add-t16 : tie.Need-add-t16
-add-t16 c = search needs
-
-add-t16-2 : tie.Need-add-t16-2
-add-t16-2 c = search needs
-
 add-t17 : tie.Need-add-t17
 add-t17 c = search needs
+
+add-t17-2 : tie.Need-add-t17-2
+add-t17-2 c = search needs
+
+add-t18 : tie.Need-add-t18
+add-t18 c = search needs
 
 returns-6 : tie.Need-returns-6
 returns-6 c =
@@ -78,8 +81,8 @@ returns-7 c =
     let r = c .match .rest in
     other-found _ _ (e .if1 .left) (c .before .before .before .before .if2 .left) (r .0 .0 .1) (c .before .if4 .left) (r .0 .1) (r .1)
 
-add-t10 : tie.Need-add-t10
-add-t10 c = search needs
+add-t11 : tie.Need-add-t11
+add-t11 c = search needs
 
 returns-8 : tie.Need-returns-8
 returns-8 c =
@@ -97,8 +100,9 @@ operation-at-spec =
     (tie.spec
     returns
     sub-left
+    add-position
     shared-slice-read-code
-    add-t14
+    add-t15
     returns-2
     returns-3
     add-get16
@@ -108,10 +112,10 @@ operation-at-spec =
     get16-requires-2
     add-if6
     returns-5
-    add-t16
-    add-t16-2
     add-t17
+    add-t17-2
+    add-t18
     returns-6
     returns-7
-    add-t10
+    add-t11
     returns-8)

@@ -1,27 +1,27 @@
--- `operation::whole` meets its contract. The octets from the position on are whole where the list is.
+-- `operation::whole` meets its contract. The octets from the place on are whole where the list is, and break where it does.
 use Prim.Native.Nat.{_≤_, _-_}
 use native.Mathlib.Omega.{arith}
 use mathlib.Core.Path.{_≡_, refl, sym, ap, _∙_, subst}
 use lib.ListN.{length, drop}
 use borrow.Author.Needs.{needs}
-use Rattle.meaning.specs.Operation.{parse, isSome}
-use Rattle.operation.proofs.Turns.{HandsOut, turn-some, turn-malformed, turn-end}
+use Rattle.meaning.specs.Operation.{parse, isSome, broken}
+use Rattle.operation.proofs.Turns.{HandsOut, turn-some, turn-malformed, turn-end, turn-broken, turn-breaks, is-whole, breaks-at}
 use Rattle.operation.proofs.Hands.{hands-out}
 use Rattle.operation.proofs.whole.Statement.{statement}
 use Rattle.operation.proofs.whole.Tie as tie
 
 abbrev Inv-loop : tie.InvT-loop
-Inv-loop list at₀ at = (at ≤ length list) × (isSome (parse (drop at list)) ≡ isSome (parse list))
+Inv-loop list at₀ at = (at ≤ length list) × (isSome (parse (drop at list)) ≡ isSome (parse list)) × (broken (drop at list) ≡ broken list)
 
 abbrev μ-loop : tie.MeasureT-loop
 μ-loop list at₀ at = length list - at
 
--- what the list hands out at the position
+-- what the list hands out at the place
 hands : (c : tie.After-hand-out Inv-loop μ-loop) → HandsOut (c .before .before .before .args .list .now) (c .before .loop .at) (c .hand-out .result)
 hands c = hands-out _ (λ i. omega (arith, c .before .before .shared-slice-known .given i)) _ _ (c .hand-out .ensures)
 
 loop-holds : tie.Need-loop-holds Inv-loop μ-loop
-loop-holds c = (omega arith, refl)
+loop-holds c = (omega arith, refl, refl)
 
 hand-out-requires : tie.Need-hand-out-requires Inv-loop μ-loop
 hand-out-requires c κs = search needs
@@ -37,23 +37,26 @@ loop-less c =
 loop-again : tie.Need-loop-again Inv-loop μ-loop
 loop-again c =
     let h = subst (HandsOut _ _) (c .before .next .given .1) (hands (c .before .before .before)) in
-    (h .1 .1, sym (turn-some _ (c .before .before .before .before .loop .at) _ _ (h .0)) ∙ c .before .before .before .before .loop .inv .1)
+    let l = c .before .before .before .before .loop in
+    (h .1 .1, sym (turn-some _ (l .at) _ _ (h .0)) ∙ l .inv .1, sym (turn-broken _ (l .at) _ _ (h .0)) ∙ l .inv .2)
+
+enum-known-position : tie.Need-enum-known-position Inv-loop μ-loop
+enum-known-position c = search needs
+
+returns : tie.Need-returns Inv-loop μ-loop
+returns c =
+    let h = subst (HandsOut _ _) (c .before .position .given .1) (hands (c .before .before .before)) in
+    let l = c .before .before .before .before .loop in
+    breaks-at _ (l .at) _ (l .inv .0) (sym (l .inv .1) ∙ ap isSome (turn-malformed _ (l .at) _ (h .0))) (sym (l .inv .2) ∙ turn-breaks _ (l .at) _ (h .0)) (h .1)
 
 enum-told : tie.Need-enum-told Inv-loop μ-loop
 enum-told c = search needs
 
-returns : tie.Need-returns Inv-loop μ-loop
-returns c =
-    let h = subst (HandsOut _ _) (c .enum-told .given .1) (hands (c .before .before)) in
-    sym (ap isSome (turn-malformed _ (c .before .before .before .loop .at) (h .0))) ∙ c .before .before .before .loop .inv .1
-
-enum-told-2 : tie.Need-enum-told-2 Inv-loop μ-loop
-enum-told-2 c = search needs
-
 returns-2 : tie.Need-returns-2 Inv-loop μ-loop
 returns-2 c =
-    let h = subst (HandsOut _ _) (c .enum-told2 .given .1) (hands (c .before .before)) in
-    sym (ap isSome (turn-end _ (c .before .before .before .loop .at) (h .0))) ∙ c .before .before .before .loop .inv .1
+    let h = subst (HandsOut _ _) (c .enum-told .given .1) (hands (c .before .before)) in
+    let l = c .before .before .before .loop in
+    is-whole _ (sym (l .inv .1) ∙ ap isSome (turn-end _ (l .at) (h .0)))
 
 pub whole-spec : {M : Type 1} → statement M
 whole-spec =
@@ -66,7 +69,7 @@ whole-spec =
     enum-known-next
     loop-less
     loop-again
-    enum-told
+    enum-known-position
     returns
-    enum-told-2
+    enum-told
     returns-2)

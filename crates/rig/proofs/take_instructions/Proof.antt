@@ -16,7 +16,7 @@ use Rattle.rig.proofs.take_instructions.Tie as tie
 
 abbrev Inv-loop : tie.InvT-loop
 Inv-loop memory₀ room₀ held from out₀ lends₀ next₀ at₀ memory room out lends next at =
-    (length memory ≡ length memory₀) × (length room ≡ length room₀) × (length out ≡ length out₀) × (next ≤ length held) × (at ≤ 81924) × (1 ≤ at → from < next)
+    (length memory ≡ length memory₀) × (length room ≡ length room₀) × (length out ≡ length out₀) × (next ≤ length held) × (at ≤ 81931) × (1 ≤ at → from < next)
     × Joins instructions held (port memory₀ room₀ lends₀ from) (port memory room lends next) at out × (from ≤ next) × Lends lends
 
 abbrev μ-loop : tie.MeasureT-loop

@@ -42,7 +42,11 @@ unfolding bodyRight
 returns-9 c = rw (c .match .keys9)
 
 returns-10 : tie.Need-returns-10
-returns-10 c = sym (other (c .before .args .code) (c .before .args .n) (c .match .rest))
+unfolding bodyRight
+returns-10 c = rw (c .match .keys10)
+
+returns-11 : tie.Need-returns-11
+returns-11 c = sym (other (c .before .args .code) (c .before .args .n) (c .match .rest))
 
 pub body-right-spec : {M : Type 1} → statement M
 body-right-spec =
@@ -57,4 +61,5 @@ body-right-spec =
     returns-7
     returns-8
     returns-9
-    returns-10)
+    returns-10
+    returns-11)

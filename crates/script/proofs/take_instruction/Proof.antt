@@ -1,5 +1,5 @@
 -- `script::take_instruction` meets its contract.
-use Prim.Native.Nat.{ℕ}
+use Prim.Native.Nat.{ℕ, _<_}
 use native.Mathlib.Omega.{arith}
 use mathlib.Core.Path.{_≡_, refl, sym, ap, _∙_}
 use mathlib.Core.Bool.{true}
@@ -8,11 +8,11 @@ use lib.ListN.{length, take, drop}
 use lib.Seq.{length-take-le, take-at}
 use borrow.Author.Needs.{needs}
 use Rattle.meaning.proofs.Tests.{denied, affirmed}
-use Rattle.answers.proofs.Answered.{answerable, answered}
 use Rattle.script.specs.Instructions.{bodyRight, called}
 use Rattle.script.specs.Instructions as instructions
-use Rattle.script.proofs.Codes.{call-row, called-room}
+use Rattle.script.proofs.Codes.{known, call-row, made-right, made-other, called-room}
 use Rattle.script.proofs.Lend.{front-is, call-left}
+use Rattle.script.proofs.Told.{tellable, told}
 use Rattle.script.proofs.take_instruction.Statement.{statement}
 use Rattle.script.proofs.take_instruction.Tie as tie
 
@@ -20,17 +20,24 @@ use Rattle.script.proofs.take_instruction.Tie as tie
 right : (c : tie.Else1) → bodyRight (c .before .before .before .before .before .before .args .code) (length (c .before .before .before .before .before .before .args .body .now)) ≡ true
 right c = sym (c .before .body-right .ensures) ∙ affirmed _ (c .if1 .left)
 
+-- the start, seen from where the room of the call is known
+abbrev start : tie.After-room-for → tie.Start
+start c = c .before .before .before .before .before .before .before .before .before .before
+
 -- the room is as long as it was lent to the call, and lent again it is what the call left
 room-long : (c : tie.After-call) → length (c .call .last .1 .0) ≡ c .before .before .before .before .before .room-for .result
 room-long c =
-    let r = c .before .before .before .before .before .room-for in
-    c .call .kept .1 .0 ∙ length-take-le (r .result) (r .last .0) (omega (arith, r .ensures .0, r .kept .0, c .before .before .before .before .before .before .before .before .before .before .before .before .before .before .pre .1))
+    let k = c .before .before .before .before .before in
+    let r = k .room-for in
+    c .call .kept .1 .0 ∙ length-take-le (r .result) (r .last .0) (omega (arith, r .ensures .0, r .kept .0, start k .pre .1))
 
 again : (c : tie.After-call)
     → let n = c .before .before .before .before .before .room-for .result in
     let room = c .call .last .1 .0 in
     take n (room ++ drop n (c .before .before .before .before .before .room-for .last .0)) ≡ room
-again c = take-at (c .call .last .1 .0) (drop (c .before .before .before .before .before .room-for .result) (c .before .before .before .before .before .room-for .last .0)) (c .before .before .before .before .before .room-for .result) (room-long c)
+again c =
+    let r = c .before .before .before .before .before .room-for in
+    take-at (c .call .last .1 .0) (drop (r .result) (r .last .0)) (r .result) (room-long c)
 
 body-right-requires : tie.Need-body-right-requires
 body-right-requires c κs = search needs
@@ -38,8 +45,19 @@ body-right-requires c κs = search needs
 returns : tie.Need-returns
 returns c = (sym (c .before .body-right .ensures) ∙ denied _ (c .if1 .taken), refl, refl, refl)
 
+call-of-requires : tie.Need-call-of-requires
+call-of-requires c κs = search needs
+
 take-other-requires : tie.Need-take-other-requires
-take-other-requires c κs = (c .before .before .before .before .before .before .before .before .before .before .pre, right (c .before .before .before .before), omega arith)
+take-other-requires c κs =
+    let k = c .before .before .before .before in
+    let s = k .before .before .before .before .before .before .before in
+    let o = made-other (s .args .code) (k .call-of .ensures) (c .before .before .before .if2 .taken) in
+    let r = right (k .before) in
+    (s .pre, r, omega (arith, o .0, c .before .before .before .if2 .taken), under (s .args .code) (known _ _ r) (o .1))
+  where
+    under : (code : ℕ) → code < 10 → (code ≡ 9 → ⊥) → code < 9
+    under code h n = omega arith
 
 same-length : tie.Need-same-length
 same-length c = search needs
@@ -54,14 +72,17 @@ returns-2 : tie.Need-returns-2
 returns-2 c = search needs
 
 room-for-requires : tie.Need-room-for-requires
-room-for-requires c κs = (c .before .before .before .before .before .before .before .before .pre .1, c .before .before .before .before .before .before .before .before .pre .2 .1, right (c .before .before))
+room-for-requires c κs =
+    let k = c .before .before in
+    let s = k .before .before .before .before .before .before .before in
+    (s .pre .1, s .pre .2 .1, made-right (s .args .code) (k .call-of .ensures) _ (right (k .before)))
 
 slice-relend-prefix-call : tie.Need-slice-relend-prefix-call
 slice-relend-prefix-call c = search needs
 
 slice-aggregate-call : tie.Need-slice-aggregate-call
 slice-aggregate-call c =
-    let s = c .before .before .before .before .before .before .before .before .before .before .before .before in
+    let s = start (c .before .before .before) in
     sym (length-take-le (s .args .lent .memory) (s .args .memory .now) (omega (arith, s .pre .0, s .pre .2 .0)))
 
 slice-relend-prefix-call-2 : tie.Need-slice-relend-prefix-call-2
@@ -69,25 +90,36 @@ slice-relend-prefix-call-2 c = search needs
 
 slice-aggregate-call-2 : tie.Need-slice-aggregate-call-2
 slice-aggregate-call-2 c =
-    let r = c .before .before .before .before .room-for in
-    sym (length-take-le (r .result) (r .last .0) (omega (arith, r .ensures .0, r .kept .0, c .before .before .before .before .before .before .before .before .before .before .before .before .before .pre .1)))
+    let k = c .before .before .before .before in
+    let r = k .room-for in
+    sym (length-take-le (r .result) (r .last .0) (omega (arith, r .ensures .0, r .kept .0, start k .pre .1)))
 
 call-requires : tie.Need-call-requires
-call-requires c κs = (right (c .before .before .before .before .before .before .before), omega arith)
+call-requires c κs =
+    let e = c .before .before .before .before .before .before in
+    let s = start (c .before .before .before .before) in
+    (made-right (s .args .code) (e .before .call-of .ensures) _ (right (e .before .before)), omega (arith, e .if2 .left))
 
-slice-reshare-prefix-write-outcome : tie.Need-slice-reshare-prefix-write-outcome
-slice-reshare-prefix-write-outcome c = search needs
+slice-reshare-prefix-write-answer : tie.Need-slice-reshare-prefix-write-answer
+slice-reshare-prefix-write-answer c = search needs
 
-slice-aggregate-write-outcome : tie.Need-slice-aggregate-write-outcome
-slice-aggregate-write-outcome c = sym (ap length (again (c .before .before .before .before .before .before)) ∙ room-long (c .before .before .before .before .before .before))
+slice-aggregate-write-answer : tie.Need-slice-aggregate-write-answer
+slice-aggregate-write-answer c =
+    let k = c .before .before .before .before .before .before in
+    sym (ap length (again k) ∙ room-long k)
 
-write-outcome-requires : tie.Need-write-outcome-requires
-write-outcome-requires c κs =
-    let a = c .before .before .before .before .before .before .before .before .before .before .before .before .before .before .before .before .before .before .before .before .args in
-    let r = c .before .before .before .before .before .before .before .before .before .before .before .room-for in
+write-answer-requires : tie.Need-write-answer-requires
+write-answer-requires c κs =
+    let k = c .before .before .before .before .before .before in
+    let f = k .before .before .before .before .before in
+    let s = start f in
+    let a = s .args in
+    let r = f .room-for in
+    let made = f .before .before .before .call-of .result in
     let m = take (a .lent .memory) (a .memory .now) in
     let h = take (r .result) (r .last .0) in
-    rw (again (c .before .before .before .before .before .before)) (answerable (called (a .code) (a .body .now) m h) h (a .out .now) (a .at) (called-room (a .code) (a .body .now) m h) (c .before .before .before .before .before .before .call .ensures) (omega (arith, slice-aggregate-call-2 (c .before .before .before .before .before .before .before), r .ensures .0, c .before .before .before .before .before .before .before .before .before .before .before .before .before .before .before .before .before .before .before .before .pre .3)))
+    rw (again k)
+    (tellable made (a .body .now) m h (a .out .now) (a .at) (k .call .ensures) (omega (arith, slice-aggregate-call-2 (k .before), r .ensures .0, s .pre .3)))
 
 same-length-4 : tie.Need-same-length-4
 same-length-4 c = search needs
@@ -100,18 +132,21 @@ same-length-6 c = search needs
 
 returns-3 : tie.Need-returns-3
 returns-3 c =
-    let s = c .before .before .before .before .before .before .before .before .before .before .before .before .before .before .before .before .before .before .before .before .before .before .before in
+    let k = c .before .before .before .before .before .before .before .before .before in
+    let f = k .before .before .before .before .before in
+    let e = f .before .before in
+    let s = start f in
     let a = s .args in
-    let r = c .before .before .before .before .before .before .before .before .before .before .before .before .before .before .room-for in
-    let k = c .before .before .before .before .before .before .before .before .before .call in
+    let r = f .room-for in
+    let made = e .before .call-of .result in
     let m = take (a .lent .memory) (a .memory .now) in
     let h = take (r .result) (r .last .0) in
-    let o = called (a .code) (a .body .now) m h in
-    let w = answered o h (a .out .now) (a .at) (called-room (a .code) (a .body .now) m h) (k .ensures) (rw (again (c .before .before .before .before .before .before .before .before .before)) at (c .before .before .write-outcome .ensures)) in (
-      right (c .before .before .before .before .before .before .before .before .before .before .before .before .before .before .before .before .before),
-      call-left (a .out .now) (a .at) _ (s .pre .2 .0, r .ensures .0) o (k .last .0) (a .memory .now) (k .last .1 .0) (a .room .now) (r .last .0) _
-          (call-row (a .code) (a .body .now) m (take (a .lent .room) (a .room .now)) (omega (arith, c .before .before .before .before .before .before .before .before .before .before .before .before .before .before .before .before .if2 .left)) ∙ ap (λ (x : List ℕ). instructions.answered (called (a .code) (a .body .now) m x)) (sym (front-is (a .room .now) _ (r .ensures .1))))
-          (w .1) (omega (arith, w .0, slice-aggregate-call-2 (c .before .before .before .before .before .before .before .before .before .before), r .ensures .0)) (s .pre .0) (r .ensures .1) (k .kept .0 ∙ sym (slice-aggregate-call (c .before .before .before .before .before .before .before .before .before .before .before))) (room-long (c .before .before .before .before .before .before .before .before .before)),
+    let g = k .call .ensures in
+    let w = told made (a .body .now) m h (a .out .now) (a .at) g (a .code) (rw (again k) at (c .before .before .write-answer .ensures)) in (
+      right (e .before .before),
+      call-left (a .out .now) (a .at) _ (s .pre .2 .0, r .ensures .0) (a .code) (called made (a .body .now) m h) (k .call .last .0) (a .memory .now) (k .call .last .1 .0) (a .room .now) (r .last .0) _
+          (call-row (a .code) (e .before .call-of .ensures) (a .body .now) m (take (a .lent .room) (a .room .now)) (omega (arith, e .if2 .left)) ∙ ap (λ (x : List ℕ). instructions.answered (a .code) (called made (a .body .now) m x)) (sym (front-is (a .room .now) _ (r .ensures .1))))
+          (w .1) (g .memoryIs) (g .roomIs) (omega (arith, w .0, slice-aggregate-call-2 (k .before), r .ensures .0)) (s .pre .0) (r .ensures .1) (k .call .kept .0 ∙ sym (slice-aggregate-call (k .before .before))) (room-long k),
     )
 
 pub take-instruction-spec : {M : Type 1} → statement M
@@ -120,6 +155,7 @@ take-instruction-spec =
     (tie.spec
     body-right-requires
     returns
+    call-of-requires
     take-other-requires
     same-length
     same-length-2
@@ -131,9 +167,9 @@ take-instruction-spec =
     slice-relend-prefix-call-2
     slice-aggregate-call-2
     call-requires
-    slice-reshare-prefix-write-outcome
-    slice-aggregate-write-outcome
-    write-outcome-requires
+    slice-reshare-prefix-write-answer
+    slice-aggregate-write-answer
+    write-answer-requires
     same-length-4
     same-length-5
     same-length-6

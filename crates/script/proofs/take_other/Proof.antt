@@ -8,7 +8,7 @@ use Rattle.meaning.specs.Delay.{delay}
 use Rattle.text.specs.Lines.{octetsLine}
 use Rattle.text.proofs.Writes.{octets-short}
 use Rattle.script.specs.Instructions.{nanoseconds}
-use Rattle.script.proofs.Codes.{known, lend-body, delay-body, lend-row, memory-row, room-row, delay-row}
+use Rattle.script.proofs.Codes.{lend-body, delay-body, lend-row, memory-row, room-row, delay-row}
 use Rattle.script.proofs.Lend.{line-left, lend-left, delay-short}
 use Rattle.script.proofs.take_other.Statement.{statement}
 use Rattle.script.proofs.take_other.Tie as tie
@@ -17,7 +17,7 @@ use Rattle.script.proofs.take_other.Tie as tie
 eight : (c : tie.At-match-rest) → c .before .before .before .before .before .args .code ≡ 8
 eight c =
     let s = c .before .before .before .before .before in
-    omega (arith, known _ _ (s .pre .1), s .pre .2)
+    omega (arith, s .pre .2, s .pre .3)
 
 append-requires : tie.Need-append-requires
 append-requires c κs = omega (arith, lend-body (c .before .before .before .before .before .before .pre .1) (c .before .match .keys1), c .before .before .before .before .before .before .pre .0 .0)
