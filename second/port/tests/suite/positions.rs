@@ -1,34 +1,11 @@
 //! Where a command breaks: number 6 tells the position of the first operation that cannot be read,
 //! and every other answer position 0.
 
-use kit::{command, hex, list, read, schedule, set, sets, subscribe, unsubscribe, Bench, Chance};
+use kit::{command, hex, list, position_by_clauses, read, schedule, set, sets, subscribe};
+use kit::{unsubscribe, Bench, Chance};
 
 /// Where the first operation of a command stands.
 const FIRST: usize = 3;
-
-/// Whether octets are one whole operation and nothing else (RULES 10.4 to 10.8).
-fn is_operation(octets: &[u8]) -> bool {
-    match octets {
-        [1] | [2 | 4 | 5, _, _] => true,
-        [3, _, _, high, low, value @ ..] => {
-            value.len() == usize::from(*high) * 256 + usize::from(*low)
-        }
-        _ => false,
-    }
-}
-
-/// What the clauses give for a list of operations, found by trying every way to part it: none where
-/// all of it is whole operations, else the position of what follows those that are.
-fn by_clauses(list: &[u8]) -> Option<usize> {
-    let mut ends = vec![0];
-    for end in 1..=list.len() {
-        if ends.iter().any(|start| is_operation(&list[*start..end])) {
-            ends.push(end);
-        }
-    }
-    let last = *ends.last().unwrap();
-    (last < list.len()).then_some(FIRST + last)
-}
 
 /// What the port gives for a message: none where it is not number 6.
 fn by_port(message: &[u8]) -> Option<usize> {
@@ -218,12 +195,28 @@ fn every_other_call_has_position_0() {
 }
 
 #[test]
+fn what_the_clauses_give_is_found() {
+    for (list, position) in [
+        ("01", None),
+        ("02 0003 03 0003 0001 01 04 0001 05 0001 01", None),
+        ("03 0042 0003 060606 01", None),
+        ("06", Some(3)),
+        ("02", Some(3)),
+        ("01 02 00", Some(4)),
+        ("02 0003 03 0003 0002 01", Some(6)),
+        ("03 0042 0003 060606 06 06", Some(11)),
+    ] {
+        assert_eq!(position_by_clauses(&hex(list)), position, "{list}");
+    }
+}
+
+#[test]
 fn damaged_commands_break_where_the_clauses_say() {
     let mut chance = Chance::new(21);
     let (mut rounds, mut far) = (0, 0);
     while rounds < 30_000 {
         let list = damaged(&mut chance);
-        let expected = by_clauses(&list);
+        let expected = position_by_clauses(&list);
         assert_eq!(by_port(&command(&list)), expected, "{list:02x?}");
         rounds += usize::from(expected.is_some());
         far += usize::from(expected.is_some_and(|position| position > FIRST));
@@ -246,7 +239,7 @@ fn a_long_command_breaks_where_the_clauses_say() {
             list[at] = chance.octet();
         }
         list.truncate(list.len() - chance.below(2) * chance.below(20));
-        let expected = by_clauses(&list);
+        let expected = position_by_clauses(&list);
         assert_eq!(by_port(&command(&list)), expected, "{list:02x?}");
         beyond += usize::from(expected.is_some_and(|position| position > 255));
     }
