@@ -172,25 +172,28 @@ fn every_other_number_has_position_0() {
     }
 }
 
+/// A call that takes no message.
+type Call = fn(&mut [u8], &mut [u8]) -> port::Answer;
+
 #[test]
 fn every_other_call_has_position_0() {
-    let mut memory = Bench::fresh().memory;
+    let calls: [Call; 6] = [
+        |memory, _| port::make_fresh(memory),
+        |memory, _| port::take_local_value(memory, 0x0003, &[1]),
+        |memory, _| port::take_local_value(memory, 0x00A4, &[0, 1]),
+        |memory, _| port::build_notification(memory, &mut []),
+        port::build_notification,
+        |memory, _| port::take_expiry(memory),
+    ];
     let mut room = [0; 4_096];
-    let broken = command(&[6]);
-    for _ in 0..2 {
-        // Right before each of them a command breaks.
-        let mut calls: [&mut dyn FnMut(&mut [u8], &mut [u8]) -> port::Answer; 4] = [
-            &mut |memory, _| port::make_fresh(memory),
-            &mut |memory, _| port::take_local_value(memory, 0x0003, &[1]),
-            &mut |memory, room| port::build_notification(memory, room),
-            &mut |memory, _| port::take_expiry(memory),
-        ];
-        for call in &mut calls {
-            port::take_message(&mut memory, &broken, &mut room);
+    for length in [2_100, 2_099] {
+        for call in calls {
+            // Right before it a command breaks, or would on sound memory.
+            let mut memory = Bench::fresh().memory;
+            memory.truncate(length);
+            port::take_message(&mut memory, &command(&[6]), &mut room);
             assert_eq!(call(&mut memory, &mut room).position, 0);
         }
-        // And once more with memory of the wrong length.
-        memory.pop();
     }
 }
 

@@ -6,7 +6,7 @@ use std::sync::LazyLock;
 use kit::{command, position_by_clauses};
 use tools::traffic::{stream, Kind};
 
-use crate::traffic::pieces;
+use crate::traffic::{pieces, printed};
 
 /// What of an operation is unknown or lacking.
 #[derive(Clone, Copy, Debug, PartialEq, Eq, PartialOrd, Ord)]
@@ -178,7 +178,8 @@ fn some_octets_behind_the_list_would_complete_an_operation() {
 
 #[test]
 fn messages_are_sent_in_full_as_often_as_in_short() {
-    let kinds: [(&str, fn(&Sent) -> bool); 8] = [
+    type Kinds = [(&'static str, fn(&Sent) -> bool); 8];
+    let kinds: Kinds = [
         ("all", |_| true),
         ("empty", |sent| sent.message.is_empty()),
         ("too long", |sent| sent.message.len() > 2_048),
@@ -204,6 +205,40 @@ fn messages_are_sent_in_full_as_often_as_in_short() {
             assert!(most >= 30 && alike, "{kind:?}, {what}: {short} and {full}");
         }
     }
+}
+
+/// With 01 for each 09 a script prints the same lines, but for the positions, and these are those of
+/// the clauses.
+#[test]
+fn scripts_in_full_differ_by_their_positions_alone() {
+    let (mut in_full, mut breaks) = (0, 0);
+    for (seed, kind) in (1..=40).flat_map(|seed| [(seed, Kind::Script), (seed, Kind::Calls)]) {
+        let mut instructions = pieces(&stream(kind, seed, 200), 3);
+        // The last one may be faulty.
+        instructions.truncate(199);
+        let [full, short] = [9, 1].map(|code| {
+            let codes = |head: &[u8]| [if head[0] == 9 { code } else { head[0] }, head[1], head[2]];
+            let joined = instructions
+                .iter()
+                .map(|(head, body)| [&codes(head), &body[..]].concat());
+            printed(&joined.collect::<Vec<_>>().concat())
+        });
+        assert_eq!((full.len(), short.len()), (199, 199));
+        for (((head, body), full), short) in instructions.iter().zip(&full).zip(&short) {
+            if head[0] != 9 {
+                assert_eq!(full, short, "seed {seed}");
+                continue;
+            }
+            let (number, written) = short.split_once(' ').unwrap();
+            let broken = break_of(&body[2..]).filter(|_| number == "6");
+            let position = broken.map_or(0, |how| how.position);
+            assert_eq!(*full, format!("{number} {position} {written}"));
+            assert_eq!(number == "6", broken.is_some(), "seed {seed}");
+            in_full += 1;
+            breaks += usize::from(broken.is_some());
+        }
+    }
+    assert!(in_full > 1_500 && breaks > 200, "{breaks} of {in_full}");
 }
 
 #[test]

@@ -29,7 +29,8 @@ pub fn pieces(stream: &[u8], head: usize) -> Vec<(Vec<u8>, Vec<u8>)> {
     pieces
 }
 
-fn printed(script: &[u8]) -> Vec<String> {
+/// The lines of the rig for a script.
+pub fn printed(script: &[u8]) -> Vec<String> {
     let mut output = Vec::new();
     programs::rig::run(script, &mut output).unwrap();
     String::from_utf8(output)
