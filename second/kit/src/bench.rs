@@ -46,6 +46,13 @@ impl Bench {
         })
     }
 
+    /// A message with an ample room; its number and its position.
+    pub fn position(&mut self, message: &[u8]) -> (u8, usize) {
+        let call = |memory: &mut [u8], room: &mut [u8]| port::take_message(memory, message, room);
+        let (answer, _) = self.answered(AMPLE, call);
+        (answer.number as u8, answer.position)
+    }
+
     /// Operations that have to be carried out; their reply.
     pub fn done(&mut self, operations: &[u8]) -> Vec<u8> {
         let (number, reply) = self.send(&command(operations));
@@ -79,16 +86,27 @@ impl Bench {
         self.clone().send(&[]).0 == 2
     }
 
-    /// Makes a call and checks what it may not touch.
+    /// Makes a call and checks what it may not touch; its number and what it has written.
     fn watched(
         &mut self,
         room: usize,
         call: impl FnOnce(&mut [u8], &mut [u8]) -> Answer,
     ) -> (u8, Vec<u8>) {
+        let (answer, written) = self.answered(room, call);
+        (answer.number as u8, written)
+    }
+
+    /// Makes a call and checks what it may not touch, and that only number 6 has a position.
+    fn answered(
+        &mut self,
+        room: usize,
+        call: impl FnOnce(&mut [u8], &mut [u8]) -> Answer,
+    ) -> (Answer, Vec<u8>) {
         let mut room = vec![FILL; room];
         let before = self.memory.clone();
         let answer = call(&mut self.memory, &mut room);
         let number = answer.number as u8;
+        assert_eq!(number == 6, answer.position != 0, "{answer:?}");
         match number {
             0 => {}
             20 | 21 => {
@@ -106,6 +124,6 @@ impl Bench {
             rest.iter().all(|octet| *octet == FILL),
             "room changed past the reply"
         );
-        (number, written.to_vec())
+        (answer, written.to_vec())
     }
 }

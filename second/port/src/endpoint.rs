@@ -2,7 +2,7 @@
 
 use crate::draft::Draft;
 use crate::memory::{Expiry, Port, FRESH, PENDING, SUBSCRIBED};
-use crate::operation::Operations;
+use crate::operation::{Malformed, Operations};
 use crate::reply::{Cause, Measure, Outcome, Record, Writer};
 use crate::table::{self, SetBy, COUNT, TABLE};
 
@@ -60,15 +60,43 @@ pub struct Answer {
     pub number: Number,
     /// How many octets were written (RULES 2.5).
     pub length: usize,
+    /// With number 6, where in the message the first operation stands that cannot be read
+    /// (RULES 15.27); 0 with every other number (RULES 15.28).
+    pub position: usize,
 }
 
-impl From<Result<usize, Number>> for Answer {
-    fn from(result: Result<usize, Number>) -> Answer {
-        let (number, length) = match result {
-            Ok(length) => (Number::Done, length),
-            Err(number) => (number, 0),
-        };
-        Answer { number, length }
+impl Answer {
+    fn done(length: usize) -> Answer {
+        Answer {
+            length,
+            ..Answer::from(Number::Done)
+        }
+    }
+}
+
+impl From<Number> for Answer {
+    fn from(number: Number) -> Answer {
+        Answer {
+            number,
+            length: 0,
+            position: 0,
+        }
+    }
+}
+
+impl From<Malformed> for Answer {
+    fn from(malformed: Malformed) -> Answer {
+        Answer {
+            position: malformed.position,
+            ..Answer::from(Number::Malformed)
+        }
+    }
+}
+
+/// How many octets were written, or a refusal: of most calls its number alone.
+impl<R: Into<Answer>> From<Result<usize, R>> for Answer {
+    fn from(result: Result<usize, R>) -> Answer {
+        result.map_or_else(R::into, Answer::done)
     }
 }
 
@@ -86,16 +114,16 @@ pub fn take_message(memory: &mut [u8], message: &[u8], room: &mut [u8]) -> Answe
     message_result(memory, message, room).into()
 }
 
-fn message_result(memory: &mut [u8], message: &[u8], room: &mut [u8]) -> Result<usize, Number> {
+fn message_result(memory: &mut [u8], message: &[u8], room: &mut [u8]) -> Result<usize, Answer> {
     let mut port = lend(memory)?;
     let (&kind, rest) = message.split_first().ok_or(Number::MessageEmpty)?;
     if message.len() > LONGEST_MESSAGE {
-        return Err(Number::MessageTooLong);
+        return Err(Number::MessageTooLong.into());
     }
     match kind {
         COMMAND => command(&mut port, operation_list(rest)?, room),
-        NOTIFY_ACK => acknowledgement(&mut port, room),
-        _ => Err(Number::UnknownType),
+        NOTIFY_ACK => Ok(acknowledgement(&mut port, room)?),
+        _ => Err(Number::UnknownType.into()),
     }
 }
 
@@ -112,11 +140,11 @@ fn operation_list(after_type: &[u8]) -> Result<&[u8], Number> {
 
 /// Two rounds over the operations: the first finds the reply's measure, and with it whether the
 /// command is carried out at all; the second writes the reply where each record belongs.
-fn command(port: &mut Port, list: &[u8], room: &mut [u8]) -> Result<usize, Number> {
+fn command(port: &mut Port, list: &[u8], room: &mut [u8]) -> Result<usize, Answer> {
     let mut trial = Draft::default();
     let mut measure = Measure::default();
     for operation in Operations::of(list) {
-        let operation = operation.map_err(|_| Number::Malformed)?;
+        let operation = operation?;
         measure.add(&trial.act(port, operation));
     }
     let length = measure.reply_length(room.len());
@@ -213,5 +241,5 @@ pub fn take_expiry(memory: &mut [u8]) -> Answer {
             Expiry::GivenUp => Number::GivenUp,
         },
     };
-    Answer { number, length: 0 }
+    number.into()
 }

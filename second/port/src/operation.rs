@@ -19,18 +19,29 @@ pub enum Operation<'m> {
 
 /// An operation with an unknown code, or cut short by the end of the list.
 #[derive(Clone, Copy, Debug, PartialEq, Eq)]
-pub struct Malformed;
+pub struct Malformed {
+    /// Where its code stands in the message (RULES 15.27).
+    pub position: usize,
+}
+
+/// Where the operations of a command begin in its message (RULES 10.1).
+const FIRST: usize = 3;
 
 /// Hands out the operations of a list; nothing more follows a malformed one.
 #[derive(Clone)]
 pub struct Operations<'m> {
     rest: Octets<'m>,
+    /// Where the list ends in the message.
+    end: usize,
 }
 
 impl<'m> Operations<'m> {
     /// Starts at the first octet of `list`.
     pub fn of(list: &'m [u8]) -> Operations<'m> {
-        Operations { rest: Octets(list) }
+        Operations {
+            rest: Octets(list),
+            end: FIRST + list.len(),
+        }
     }
 
     fn body(&mut self, code: u8) -> Option<Operation<'m>> {
@@ -53,11 +64,12 @@ impl<'m> Iterator for Operations<'m> {
     type Item = Result<Operation<'m>, Malformed>;
 
     fn next(&mut self) -> Option<Self::Item> {
+        let position = self.end - self.rest.0.len();
         let code = self.rest.octet()?;
         let operation = self.body(code);
         if operation.is_none() {
             self.rest = Octets(&[]);
         }
-        Some(operation.ok_or(Malformed))
+        Some(operation.ok_or(Malformed { position }))
     }
 }

@@ -3,8 +3,8 @@
 use std::io::{self, Read, Write};
 
 use port::{
-    build_notification, make_fresh, take_expiry, take_local_value, take_message, DelayUnits,
-    Nanoseconds, FRESH,
+    build_notification, make_fresh, take_expiry, take_local_value, take_message, Answer,
+    DelayUnits, Nanoseconds, FRESH,
 };
 
 use crate::stream::{Lines, Piece, Pieces};
@@ -25,10 +25,12 @@ pub mod code {
     pub const LEND: u8 = 0x05;
     /// Show memory.
     pub const SHOW_MEMORY: u8 = 0x06;
-    /// Show the room of the last message or notification.
+    /// Show the room of the last instruction that made one (RULES 17.11).
     pub const SHOW_ROOM: u8 = 0x07;
     /// Delay conversion: nanoseconds (8).
     pub const DELAY: u8 = 0x08;
+    /// Message, as 01, with its position in the line: room length (2), message (RULES 17.18).
+    pub const MESSAGE_IN_FULL: u8 = 0x09;
 }
 
 /// An instruction's head: code, length (2).
@@ -81,7 +83,7 @@ impl<W: Write> Rig<W> {
     pub fn instruction(&mut self, code: u8, body: &[u8]) -> io::Result<bool> {
         let answer = match (code, body) {
             (code::MAKE_FRESH, []) => make_fresh(&mut self.memory),
-            (code::MESSAGE, [high, low, message @ ..]) => {
+            (code::MESSAGE | code::MESSAGE_IN_FULL, [high, low, message @ ..]) => {
                 self.make_room([*high, *low]);
                 take_message(&mut self.memory, message, &mut self.room)
             }
@@ -96,9 +98,20 @@ impl<W: Write> Rig<W> {
             (code::EXPIRY, []) => take_expiry(&mut self.memory),
             _ => return self.other(code, body),
         };
-        let written = &self.room[..answer.length];
-        self.lines.numbered(answer.number as u8, written)?;
+        self.answered(answer, code == code::MESSAGE_IN_FULL)?;
         Ok(true)
+    }
+
+    /// The line of a call, in full with its position.
+    fn answered(&mut self, answer: Answer, in_full: bool) -> io::Result<()> {
+        let (number, written) = (answer.number as u8, &self.room[..answer.length]);
+        if in_full {
+            let position = answer.position;
+            self.lines.part(&format!("{number} {position} "));
+            self.lines.octets(written)
+        } else {
+            self.lines.numbered(number, written)
+        }
     }
 
     /// The instructions that are no calls over memory.

@@ -6,6 +6,7 @@ mod examples;
 mod no_panic;
 mod numbers;
 mod order;
+mod positions;
 mod read_back;
 mod rules;
 mod sound;

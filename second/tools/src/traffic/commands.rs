@@ -3,7 +3,7 @@
 use port::table::{SetBy, COMMIT, TABLE};
 
 use super::dice::Dice;
-use super::operations::{Operations, COMMAND};
+use super::operations::{Operations, BEFORE_LIST, COMMAND};
 use super::{schedules, values};
 
 const NOTIFY_ACK: u8 = 0x04;
@@ -14,7 +14,7 @@ const UNLISTED: u16 = 0x0002;
 /// Longest message that is taken.
 const LONGEST: usize = 2_048;
 /// Longest list of operations in such a message.
-const LONGEST_LIST: usize = LONGEST - 3;
+const LONGEST_LIST: usize = LONGEST - BEFORE_LIST;
 
 /// Any message, fit for the sound memory that will take it.
 pub fn message(dice: &mut Dice, memory: &[u8]) -> Vec<u8> {
@@ -59,21 +59,26 @@ pub fn subscriptions(dice: &mut Dice) -> Vec<u8> {
 fn mixed(dice: &mut Dice) -> Operations {
     let mut operations = Operations::default();
     for _ in 0..dice.between(1, 6) {
-        let name = values::name(dice);
-        match dice.below(14) {
-            0 => operations.get_capabilities(),
-            1..=4 => operations.read(name),
-            5..=6 => operations.subscribe(name),
-            7 => operations.unsubscribe(name),
-            8 => operations.set(name, &[1]),
-            _ => {
-                let parameter = &TABLE[values::place(dice, SetBy::Controller)];
-                let value = values::permitted(dice, parameter);
-                operations.set(parameter.name, &value);
-            }
-        }
+        add_any(dice, &mut operations);
     }
     operations
+}
+
+/// Adds any operation that can be read.
+pub fn add_any(dice: &mut Dice, operations: &mut Operations) {
+    let name = values::name(dice);
+    match dice.below(14) {
+        0 => operations.get_capabilities(),
+        1..=4 => operations.read(name),
+        5..=6 => operations.subscribe(name),
+        7 => operations.unsubscribe(name),
+        8 => operations.set(name, &[1]),
+        _ => {
+            let parameter = &TABLE[values::place(dice, SetBy::Controller)];
+            let value = values::permitted(dice, parameter);
+            operations.set(parameter.name, &value);
+        }
+    }
 }
 
 /// Sets of values one step off, among reads that show that nothing came of them.

@@ -2,6 +2,7 @@
 //! every machine.
 
 pub mod acts;
+mod breaks;
 mod captures;
 mod commands;
 pub mod dice;

@@ -2,12 +2,21 @@
 
 /// The type of a command.
 pub const COMMAND: u8 = 0x01;
+/// Octets of a command before its operations: its type, L.
+pub const BEFORE_LIST: usize = 3;
+/// Octets of a set before its value: its code, name, length.
+pub const BEFORE_VALUE: usize = 5;
 
 /// A list of operations under construction.
 #[derive(Default)]
 pub struct Operations(Vec<u8>);
 
 impl Operations {
+    /// A list of any octets.
+    pub fn of(list: &[u8]) -> Operations {
+        Operations(list.to_vec())
+    }
+
     /// Adds a get capabilities.
     pub fn get_capabilities(&mut self) {
         self.0.push(1);
@@ -20,8 +29,13 @@ impl Operations {
 
     /// Adds a set.
     pub fn set(&mut self, name: u16, value: &[u8]) {
+        self.set_telling(name, value.len(), value);
+    }
+
+    /// Adds a set that tells another length of its value.
+    pub fn set_telling(&mut self, name: u16, length: usize, value: &[u8]) {
         self.named(3, name);
-        self.0.extend((value.len() as u16).to_be_bytes());
+        self.0.extend((length as u16).to_be_bytes());
         self.0.extend(value);
     }
 
@@ -46,6 +60,11 @@ impl Operations {
         message.extend((length as u16).to_be_bytes());
         message.extend(&self.0);
         message
+    }
+
+    /// The list itself.
+    pub fn list(self) -> Vec<u8> {
+        self.0
     }
 
     /// Octets of the list.

@@ -9,7 +9,7 @@ use programs::stream::Lines;
 
 use super::dice::Dice;
 use super::pieces::{is_cut, shorten};
-use super::{commands, memories, values};
+use super::{breaks, commands, memories, values};
 
 /// A room that is large enough for every reply.
 const AMPLE: usize = 4_096;
@@ -17,6 +17,8 @@ const AMPLE: usize = 4_096;
 const LONGEST_MESSAGE: usize = 65_533;
 /// Least room for a notification.
 const LEAST_NOTIFICATION_ROOM: usize = 1_600;
+/// One message in so many is a command that breaks, beside those among all other messages.
+const BREAKS: usize = 9;
 /// Nanoseconds around the edges of the delay conversion.
 const DELAYS: [u64; 8] = [
     0,
@@ -76,6 +78,15 @@ pub fn write<W: Write>(dice: &mut Dice, pace: Pace, count: u64, sink: &mut W) ->
     Ok(())
 }
 
+/// Any message, fit for the sound memory that will take it.
+fn drawn(dice: &mut Dice, memory: &[u8]) -> Vec<u8> {
+    if dice.one_in(BREAKS) {
+        breaks::command(dice)
+    } else {
+        commands::message(dice, memory)
+    }
+}
+
 struct Script<'a, W> {
     dice: &'a mut Dice,
     pace: Pace,
@@ -105,7 +116,7 @@ impl<W: Write> Script<'_, W> {
     fn call(&mut self) -> io::Result<()> {
         match self.dice.below(8) {
             0..=2 => {
-                let message = commands::message(self.dice, &FRESH);
+                let message = drawn(self.dice, &FRESH);
                 self.send(&message)
             }
             3..=4 => self.local_value(),
@@ -115,15 +126,17 @@ impl<W: Write> Script<'_, W> {
     }
 
     fn message(&mut self) -> io::Result<()> {
-        let message = commands::message(self.dice, &self.rig.memory);
+        let message = drawn(self.dice, &self.rig.memory);
         self.send(&message)
     }
 
+    /// Sends a message, as often to be told in full as not.
     fn send(&mut self, message: &[u8]) -> io::Result<()> {
         let message = &message[..message.len().min(LONGEST_MESSAGE)];
         let room = self.room_for(message);
         let body = [&(room as u16).to_be_bytes(), message].concat();
-        self.instruction(code::MESSAGE, &body)?;
+        let code = self.dice.pick(&[code::MESSAGE, code::MESSAGE_IN_FULL]);
+        self.instruction(code, &body)?;
         self.show()
     }
 
@@ -267,7 +280,7 @@ impl<W: Write> Script<'_, W> {
     fn faulty(&mut self, mut instruction: Vec<u8>) -> Vec<u8> {
         match self.dice.below(3) {
             0 => shorten(self.dice, &mut instruction, HEAD),
-            1 => instruction[0] = self.dice.pick(&[0x09, 0x10, 0xFF]),
+            1 => instruction[0] = self.dice.pick(&[0x0E, 0x10, 0xFF]),
             _ => {
                 let wrong = [
                     (code::MAKE_FRESH, 1),
@@ -281,6 +294,8 @@ impl<W: Write> Script<'_, W> {
                     (code::SHOW_ROOM, 1),
                     (code::DELAY, 7),
                     (code::DELAY, 9),
+                    (code::MESSAGE_IN_FULL, 0),
+                    (code::MESSAGE_IN_FULL, 1),
                 ];
                 let (code, length) = self.dice.pick(&wrong);
                 instruction = Self::joined(code, &vec![0; length]);

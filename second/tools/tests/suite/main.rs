@@ -1,5 +1,6 @@
 //! All tests of the tools, and of the streams that are stored with the proved programs, in one program.
 
+mod breaks;
 mod captured_lines;
 mod compare;
 mod gate;
@@ -10,6 +11,7 @@ mod shapes;
 mod stack;
 mod stored;
 mod stored_desk;
+mod stored_positions;
 mod stored_script;
 mod streams;
 mod traffic;

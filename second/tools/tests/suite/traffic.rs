@@ -29,7 +29,8 @@ pub fn pieces(stream: &[u8], head: usize) -> Vec<(Vec<u8>, Vec<u8>)> {
     pieces
 }
 
-fn printed(script: &[u8]) -> Vec<String> {
+/// The lines of the rig for a script.
+pub fn printed(script: &[u8]) -> Vec<String> {
     let mut output = Vec::new();
     programs::rig::run(script, &mut output).unwrap();
     String::from_utf8(output)
@@ -89,8 +90,8 @@ fn instructions_show_memory_and_room_often() {
 }
 
 /// How often each code occurs in some scripts.
-fn codes(kind: Kind) -> [usize; 9] {
-    let mut codes = [0; 9];
+fn codes(kind: Kind) -> [usize; 10] {
+    let mut codes = [0; 10];
     for seed in 1..=SCRIPTS {
         for (head, _) in pieces(&stream(kind, seed, RECORDS), 3) {
             if let Some(count) = codes.get_mut(usize::from(head[0])) {
@@ -105,7 +106,7 @@ fn codes(kind: Kind) -> [usize; 9] {
 #[test]
 fn calls_are_made_more_often_than_shown() {
     let codes = codes(Kind::Calls);
-    let calls: usize = codes[..5].iter().sum();
+    let calls: usize = codes[..5].iter().sum::<usize>() + codes[9];
     assert!(calls as u64 > SCRIPTS * RECORDS * 7 / 10, "{codes:?}");
     assert!(codes.iter().all(|count| *count > 300), "{codes:?}");
     assert!((calls / 6..calls / 4).contains(&codes[6]), "{codes:?}");
@@ -275,7 +276,7 @@ pub fn play(script: &[u8], mut watch: impl FnMut(&Bench, &[u8], usize)) {
     for (head, body) in pieces(script, 3) {
         match (head[0], body.len()) {
             (0, 0) => drop(bench.make_fresh()),
-            (1, 2..) => {
+            (1 | 9, 2..) => {
                 let room = number(&body).into();
                 watch(&bench, &body[2..], room);
                 bench.send_into(&body[2..], room);
@@ -324,7 +325,7 @@ fn most_commands_of_a_script_are_carried_out() {
         );
     }
     assert!(
-        carried_out * 3 > commands * 2,
+        carried_out * 5 > commands * 3,
         "{carried_out} of {commands}"
     );
 }
@@ -342,8 +343,8 @@ fn streams_follow_from_their_seed_alone() {
         (Kind::Frames, 0x5399_F764_69FC_26DD),
         (measured("mixed"), 0x8F2D_1544_4C08_A106),
         (measured("empty"), 0xD944_AA8A_A327_8099),
-        (Kind::Script, 0x5C7C_E4AA_7143_8DF6),
-        (Kind::Calls, 0xB19E_8A59_EAD6_3FC2),
+        (Kind::Script, 0x6B42_12B2_7877_FEA0),
+        (Kind::Calls, 0x0D15_4594_1EBB_6604),
         (Kind::Captures, 0x4B73_68C8_3028_1715),
     ] {
         let [first, second] = [1, 2].map(|seed| stream(kind, seed, 1_000));

@@ -6,6 +6,7 @@
 mod calls;
 mod marks;
 mod memories;
+mod positions;
 mod replies;
 mod schedules;
 mod script;
@@ -23,6 +24,7 @@ pub fn write<W: Write>(count: u64, sink: &mut W) -> io::Result<()> {
     schedules::add(&mut edges);
     marks::add(&mut edges);
     calls::add(&mut edges);
+    positions::add(&mut edges);
     replies::add(&mut edges);
     memories::add(&mut edges);
     edges.fresh();

@@ -36,8 +36,12 @@ impl Edges {
     }
 
     pub fn message(&mut self, room: u16, message: &[u8]) {
-        let body = [&room.to_be_bytes(), message].concat();
-        self.instruction(code::MESSAGE, &body);
+        self.send(code::MESSAGE, room, message);
+    }
+
+    /// A message whose line has its position.
+    pub fn message_in_full(&mut self, room: u16, message: &[u8]) {
+        self.send(code::MESSAGE_IN_FULL, room, message);
     }
 
     /// A command of the operations that `add` adds, in an ample room.
@@ -80,5 +84,14 @@ impl Edges {
 
     pub fn show(&mut self) {
         self.instruction(code::SHOW_MEMORY, &[]);
+    }
+
+    pub fn show_room(&mut self) {
+        self.instruction(code::SHOW_ROOM, &[]);
+    }
+
+    fn send(&mut self, code: u8, room: u16, message: &[u8]) {
+        let body = [&room.to_be_bytes(), message].concat();
+        self.instruction(code, &body);
     }
 }

@@ -1,0 +1,80 @@
+//! Commands that break: one or two of their operations are malformed or cut short, at any place.
+
+use port::table::{SetBy, TABLE};
+
+use super::commands::add_any;
+use super::dice::Dice;
+use super::operations::{Operations, BEFORE_LIST, BEFORE_VALUE};
+use super::values;
+
+/// Codes that no operation has.
+const UNKNOWN: [u8; 8] = [0x00, 0x06, 0x07, 0x08, 0x09, 0x0A, 0x81, 0xFF];
+/// Codes of the operations that are a code and a name.
+const NAMED: [u8; 3] = [2, 4, 5];
+/// How many octets more than it has a value is told to have.
+const MORE: [usize; 6] = [0, 0, 1, 9, 300, 60_000];
+
+/// A command that breaks at its first operation, at its last, or in between. Where it is cut short,
+/// the octets that it lacks often follow.
+pub fn command(dice: &mut Dice) -> Vec<u8> {
+    let mut operations = Operations::default();
+    let mut end = usize::MAX;
+    for _ in 0..dice.pick(&[1, 1, 2]) {
+        add_some(dice, &mut operations);
+        end = end.min(add_broken(dice, &mut operations));
+    }
+    add_some(dice, &mut operations);
+    let length = end.min(operations.length());
+    let mut message = operations.command_telling(length);
+    if dice.one_in(2) {
+        message.truncate(BEFORE_LIST + length);
+    }
+    message
+}
+
+fn add_some(dice: &mut Dice, operations: &mut Operations) {
+    for _ in 0..dice.pick(&[0, 0, 1, 2, 4]) {
+        add_any(dice, operations);
+    }
+}
+
+/// Adds an operation that cannot be read, if the list ends no later than is returned.
+fn add_broken(dice: &mut Dice, operations: &mut Operations) -> usize {
+    let at = operations.length();
+    let name = values::name(dice);
+    match dice.below(6) {
+        0..=1 => {
+            operations.named(dice.pick(&UNKNOWN), name);
+            // It cannot be read with its name nor without.
+            dice.pick(&[usize::MAX, usize::MAX, at + 1])
+        }
+        2 => {
+            operations.named(dice.pick(&NAMED), name);
+            at + dice.between(1, 2)
+        }
+        3 => {
+            add_set(dice, operations, 0);
+            at + dice.between(1, 2)
+        }
+        4 => {
+            add_set(dice, operations, 0);
+            at + dice.between(3, 4)
+        }
+        _ => {
+            let more = dice.pick(&MORE);
+            let told = add_set(dice, operations, more);
+            let there = dice.below(told);
+            at + BEFORE_VALUE + dice.pick(&[there, told - 1])
+        }
+    }
+}
+
+/// Adds a set that tells so many octets more than its value has; all that it tells, which is one or
+/// more, so that one can be lacking.
+fn add_set(dice: &mut Dice, operations: &mut Operations, more: usize) -> usize {
+    let parameter = &TABLE[values::place(dice, SetBy::Controller)];
+    let value = values::permitted(dice, parameter);
+    let told = (value.len() + more).max(1);
+    operations.set_telling(parameter.name, told, &value);
+    told
+}
