@@ -6,13 +6,13 @@ use mathlib.Core.Path.{_≡_, refl, sym, ap, _∙_}
 use mathlib.Core.Logic.{_≢_, _⊎_, inl, inr}
 use mathlib.Core.Bool.{Bool, true, false, false≢true}
 use mathlib.Core.Option.{Option, none, some}
-use mathlib.Core.List.{List, [], _∷_, _++_, append-nil, append-assoc}
+use mathlib.Core.List.{List, [], _∷_, _++_, append-assoc}
 use lib.ListN.{length, drop, length-append}
 use borrow.Author.Tests.{ne-eqb, le-leb, lt-leb}
 use Rattle.meaning.specs.Octets.{octet, at16, part, flat}
-use Rattle.meaning.specs.Operation.{Op, Shape, alone, named, valued, malformed, shape, Next, bad, got, whole, shaped, more, follow, parse, isSome, fromBroken, brokenIn, broken, breakOf}
+use Rattle.meaning.specs.Operation.{Op, Shape, alone, named, valued, malformed, shape, Next, bad, got, whole, shaped, more, follow, parseIn, parse, isSome, fromBroken, brokenIn, broken, breakOf}
 use Rattle.meaning.proofs.Lists.{Each, Octets}
-use Rattle.meaning.proofs.Encode.{encode, Fine, firstOf, first-encoded, Split, shape-right, Shorter, shaped-shorter, same-bound, parse-step, parse-nil, parse-encoded}
+use Rattle.meaning.proofs.Encode.{encode, Fine, firstOf, first-encoded, Split, shape-right, Shorter, shaped-shorter, same-bound, parse-step}
 
 -- ---- what is no whole operation, on its octets (RULES 10.4 to 10.10)
 
@@ -174,6 +174,26 @@ ahead-of : (s : List ℕ) → Octets s → Ahead s (broken s)
 unfolding broken
 ahead-of s o = ahead-in (length s) s (omega arith) o
 
+-- what cannot be parsed in n steps has something broken in n steps
+
+pub more-none : (o : Op) (p : Option (List Op)) → more o p ≡ none → p ≡ none
+unfolding more
+more-none o none e = refl
+more-none o (some os) e = absurd (false≢true (sym (ap isSome e)))
+
+broken-by : (n c : ℕ) (s : List ℕ) (nx : Next) → follow nx (λ r. parseIn n r) ≡ none → ((r : List ℕ) → parseIn n r ≡ none → 1 ≤ length (brokenIn n r))
+    → 1 ≤ length (fromBroken (c ∷ s) nx (λ r. brokenIn n r))
+unfolding fromBroken follow
+broken-by n c s bad e h = omega arith
+broken-by n c s (got o r) e h = h r (more-none o (parseIn n r) e)
+
+pub something-broken : (n : ℕ) (s : List ℕ) → parseIn n s ≡ none → 1 ≤ length (brokenIn n s)
+unfolding parseIn brokenIn
+something-broken zero [] e = absurd (false≢true (sym (ap isSome e)))
+something-broken zero (c ∷ s) e = omega arith
+something-broken (suc n) [] e = absurd (false≢true (sym (ap isSome e)))
+something-broken (suc n) (c ∷ s) e = broken-by n c s (shaped (shape c) s) e (λ r f. something-broken n r f)
+
 -- ---- where the octets of a list break
 
 -- Of the L octets t: whole operations come first, none is allowed, and what stands behind them is malformed or cut short. They end at the position p
@@ -193,14 +213,18 @@ break-inside t p b = (omega (arith, b .at), omega (arith, b .at, some-left (b .l
     some-left [] h = absurd h
     some-left (c ∷ u) h = omega arith
 
+something : (t : List ℕ) → parse t ≡ none → 1 ≤ length (broken t)
+unfolding parse broken
+something t e = something-broken (length t) t e
+
 -- a list that cannot be parsed breaks at `breakOf`
 pub breaks-there : (t : List ℕ) → Octets t → parse t ≡ none → Breaks t (breakOf t)
 unfolding breakOf
-breaks-there t o e = at (broken t) (ahead-of t o)
+breaks-there t o e = at (broken t) (something t e) (ahead-of t o)
   where
-    at : (u : List ℕ) → Ahead t u → Breaks t (3 + (length t - length u))
-    at [] a = absurd (false≢true (ap isSome (sym e ∙ ap parse (a .joined ∙ append-nil (flat encode (a .ops))) ∙ parse-encoded (a .ops) (a .fine))))
-    at (c ∷ u) a =
+    at : (u : List ℕ) → 1 ≤ length u → Ahead t u → Breaks t (3 + (length t - length u))
+    at [] l a = absurd (omega arith)
+    at (c ∷ u) l a =
         record {
           ahead = a .ops;
           fine = a .fine;

@@ -1,13 +1,14 @@
 -- A list that is handed out to its end gives exactly its operations, in their order; one that breaks is refused with the position that the call tells.
 use Prim.Native.Nat.{ℕ, zero, suc, _+_, _-_, _≤_, _<_}
 use native.Mathlib.Omega.{arith}
-use mathlib.Core.Path.{_≡_, refl, sym, ap, _∙_}
+use mathlib.Core.Path.{_≡_, sym, ap, _∙_}
 use mathlib.Core.Bool.{false≢true}
 use mathlib.Core.List.{List, []}
 use mathlib.Core.Option.{Option, none, some}
 use lib.ListN.{length, drop, getD, length-drop}
 use Rattle.meaning.specs.Operation.{more, parse, isSome, broken, inMessage, breakOf}
 use Rattle.meaning.specs.Operation as operation
+use Rattle.meaning.proofs.Breaks.{more-none}
 use Rattle.operation.specs.declared.Handed.{Handed}
 use Rattle.operation.specs.declared.Handed.the-variants.{Operation, Malformed, End}
 use Rattle.operation.specs.Handing.{opOf, handedAt}
@@ -35,11 +36,6 @@ refusedOn End rest = 0
 unfoldable pub refusedAt : (ℕ → Handed) → ℕ → ℕ → ℕ
 refusedAt f zero at = 0
 refusedAt f (suc n) at = refusedOn (f at) (refusedAt f n)
-
-more-none : (o : operation.Op) (p : Option (List operation.Op)) → more o p ≡ none → p ≡ none
-unfolding more
-more-none o none e = refl
-more-none o (some os) e = absurd (false≢true (sym (ap isSome e)))
 
 module _ (s : List ℕ) where
   -- one answer, with what is handed out after it known

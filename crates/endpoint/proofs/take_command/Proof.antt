@@ -6,7 +6,7 @@ use mathlib.Core.Logic.{inl, inr}
 use lib.ListN.{length, take, drop, length-take}
 use borrow.Author.Needs.{needs}
 use Rattle.meaning.specs.Octets.{octet, at16}
-use Rattle.meaning.specs.Calls.{operations}
+use Rattle.meaning.specs.Calls.{numberOnly, operations, located}
 use Rattle.meaning.proofs.Numbers.{Taken, Measured, message-5, message-6}
 use Rattle.endpoint.specs.Outcomes.{numberOf, lengthOf, positionOf}
 use Rattle.endpoint.specs.declared.Outcome.the-variants.{LengthWrong}
@@ -116,7 +116,8 @@ returns-5 c =
     let a = k .before .before .before .before .before .before .before .before .before .args in
     let b = broken-none _ _ (sym (c .before .position .given .1) ∙ told k) in
     gives-broken (a .memory .now) (a .room .now) _
-    (rw (b .1) (message-6 (a .memory .now) (a .sent .now) (a .room .now) (measured (k .before .before)) (not-whole _ (b .0))))
+    (message-6 (a .memory .now) (a .sent .now) (a .room .now) (measured (k .before .before)) (not-whole _ (b .0))
+    ∙ ap (λ (p : ℕ). located p (numberOnly 6 (a .memory .now) (a .room .now))) (sym (b .1)))
 
 pub take-command-spec : {M : Type 1} → statement M
 take-command-spec =
