@@ -65,6 +65,19 @@ fn the_first_operation_stands_at_position_3() {
     assert_eq!(by_port(&hex("01 0006 03 0003 0002 01")), Some(3));
 }
 
+/// The messages of RULES 15.30.
+#[test]
+fn the_examples_of_the_rules() {
+    let examples = [
+        ("01 0007 02 0003 04 00A4 0A", 9),
+        ("01 0006 01 03 0003 0005", 4),
+        ("01 0002 02 00 03", 3),
+    ];
+    for (message, position) in examples {
+        assert_eq!(by_port(&hex(message)), Some(position), "{message}");
+    }
+}
+
 #[test]
 fn every_unknown_code_is_told_in_its_place() {
     for code in (0..=255).filter(|code| !(1..=5).contains(code)) {
