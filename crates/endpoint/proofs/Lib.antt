@@ -3,3 +3,4 @@ pub mod Exits
 pub mod OneOutcome
 pub mod Reached
 pub mod ReadReached
+pub mod BreaksReached

@@ -1,4 +1,4 @@
--- Where a command breaks (RULES 15.27, 15.28): with number 6 the position is where whole operations end and none begins, with every other it is 0.
+-- Where the operations of a command break (RULES 15.27, 15.29): whole ones end there and none begins, and no other position has both.
 use Prim.Native.Nat.{ℕ, zero, suc, _+_, _*_, _-_, _≤_, _<_}
 use native.Mathlib.Omega.{arith}
 use native.Mathlib.Decide.{decLe}
@@ -9,8 +9,8 @@ use mathlib.Core.Option.{Option, none, some}
 use mathlib.Core.List.{List, [], _∷_, _++_, append-assoc}
 use lib.ListN.{length, drop, length-append}
 use borrow.Author.Tests.{ne-eqb, le-leb, lt-leb}
-use Rattle.meaning.specs.Octets.{octet, at16, part, flat}
-use Rattle.meaning.specs.Operation.{Op, Shape, alone, named, valued, malformed, shape, Next, bad, got, whole, shaped, more, follow, parseIn, parse, isSome, fromBroken, brokenIn, broken, breakOf}
+use Rattle.meaning.specs.Octets.{octet, at16, flat}
+use Rattle.meaning.specs.Operation.{Op, shape, Next, bad, got, whole, shaped, more, follow, parseIn, parse, isSome, fromBroken, brokenIn, broken, breakOf}
 use Rattle.meaning.proofs.Lists.{Each, Octets}
 use Rattle.meaning.proofs.Encode.{encode, Fine, firstOf, first-encoded, Split, shape-right, Shorter, shaped-shorter, same-bound, parse-step}
 

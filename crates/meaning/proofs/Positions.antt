@@ -1,8 +1,8 @@
 -- The position of an outcome (RULES 15.27, 15.28): a message says with number 6 where its operations break, with every other number 0, and so does
 -- every other call. What else an outcome has does not depend on it.
-use Prim.Native.Nat.{ℕ, suc, _+_, _≤_}
+use Prim.Native.Nat.{ℕ, _+_, _≤_}
 use native.Mathlib.Omega.{arith}
-use mathlib.Core.Path.{_≡_, refl, sym, ap, _∙_}
+use mathlib.Core.Path.{_≡_, refl, sym, _∙_}
 use mathlib.Core.Logic.{_≢_}
 use mathlib.Core.Bool.{Bool, true, false, true≢false}
 use mathlib.Core.Option.{Option, none, some}
@@ -10,7 +10,7 @@ use mathlib.Core.List.{List, [], _∷_, _++_, map}
 use lib.ListN.{length}
 use lib.Dec.{eqb}
 use borrow.Author.Tests.{leb-true, eqb-true, eq-eqb, ne-eqb}
-use Rattle.meaning.specs.Octets.{part, implies, zeros}
+use Rattle.meaning.specs.Octets.{implies, zeros}
 use Rattle.meaning.specs.Checks.{Checks, passed, check, firstFailed}
 use Rattle.meaning.specs.Memory.{fresh}
 use Rattle.meaning.specs.Operation.{Op, parse, isSome, breakOf}

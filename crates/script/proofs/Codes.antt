@@ -17,7 +17,7 @@ use Rattle.meaning.proofs.Positions.{position-most, localValue-nowhere, build-n
 use Rattle.endpoint.specs.Outcomes.{Gives}
 use Rattle.endpoint.specs.declared.Outcome as answers
 use Rattle.text.specs.Lines.{octetsLine, lentLine}
-use Rattle.script.specs.Instructions.{bodyRight, anew, nanoseconds, printed, callOf, roomFor, alone, called, toldLine, answered, effect}
+use Rattle.script.specs.Instructions.{bodyRight, anew, nanoseconds, printed, callOf, roomFor, alone, called, answered, effect}
 
 -- ---- bodies
 

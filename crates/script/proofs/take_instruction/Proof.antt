@@ -10,7 +10,7 @@ use borrow.Author.Needs.{needs}
 use Rattle.meaning.proofs.Tests.{denied, affirmed}
 use Rattle.script.specs.Instructions.{bodyRight, called}
 use Rattle.script.specs.Instructions as instructions
-use Rattle.script.proofs.Codes.{known, call-row, made-right, made-other, called-room}
+use Rattle.script.proofs.Codes.{known, call-row, made-right, made-other}
 use Rattle.script.proofs.Lend.{front-is, call-left}
 use Rattle.script.proofs.Told.{tellable, told}
 use Rattle.script.proofs.take_instruction.Statement.{statement}
