@@ -54,8 +54,8 @@ pub const RUNNING_LENGTH_AT: usize = table::CELL_LENGTH * table::COMMIT + table:
 
 pub const RUNNING_AT: usize = table::RUNNING_AT;
 
-// What a call answers: done, with the length of what it wrote; twelve reasons why nothing was done, that an operation is
-// malformed with its position in the message; that a waiting notification is to be sent again, or has been given up.
+// What a call answers: done, with the length of what it wrote; twelve reasons why nothing was done, a malformed operation
+// with its position in the message; that a waiting notification is to be sent again, or has been given up.
 pub enum Outcome {
     Done(usize),
     MemoryUnsound,

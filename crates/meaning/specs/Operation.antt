@@ -76,12 +76,12 @@ orNone (some os) = os
 
 -- ---- where a list breaks
 
--- the octets s, by what their first operation is: all of them where it is malformed or cut short, else those that count of the rest
+-- what is broken of the octets s, by their first operation: all of them where it is malformed or cut short, else what is broken behind it
 unfoldable pub fromBroken : List ℕ → Next → (List ℕ → List ℕ) → List ℕ
 fromBroken s bad rest = s
 fromBroken s (got o r) rest = rest r
 
--- at most n octets gone through, as by `parseIn`
+-- with at most n octets gone through, as by `parseIn`
 unfoldable pub brokenIn : ℕ → List ℕ → List ℕ
 brokenIn zero s = s
 brokenIn (suc n) [] = []

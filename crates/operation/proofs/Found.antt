@@ -1,4 +1,4 @@
--- What a list hands out at a position: one law for each way in which `operation_at` returns.
+-- What a list hands out at a place: one law for each way in which `operation_at` returns.
 use Prim.Native.Nat.{ℕ, suc, _+_, _-_, _≤_, _<_}
 use native.Mathlib.Omega.{arith}
 use mathlib.Core.Path.{_≡_, refl, sym, ap, ap₂, _∙_}

@@ -1,4 +1,4 @@
--- What a list of octets hands out is what is parsed there: at each position the operation that is found, which lies ahead and within the list.
+-- What a list of octets hands out is what is parsed there: at each place the operation that is found, which lies ahead and within the list.
 use Prim.Native.Nat.{ℕ, suc, _+_, _-_, _≤_, _<_}
 use native.Mathlib.Decide.{decLe}
 use native.Mathlib.Omega.{arith}
@@ -18,7 +18,7 @@ use Rattle.operation.proofs.Found.{whole-there, whole-cut, rest, rest-l
 use Rattle.operation.proofs.Turns.{found, first, handing, Reached, HandsOut}
 
 module _ (s : List ℕ) (octets : (i : ℕ) → getD s i 0 < 256) (at : ℕ) where
-  -- what is found at the position is handed out
+  -- what is found at the place is handed out
   abbrev Meets : Next → Type 0
   Meets nx = (handing s (foundAt (length s) at nx) ≡ found nx) × Reached (length s) at (foundAt (length s) at nx)
 

@@ -15,13 +15,13 @@ use Rattle.operation.specs.Handing.{opOf, handedAt}
 use Rattle.operation.proofs.Turns.{HandsOut, turn, turn-malformed, turn-end, turn-broken, turn-breaks}
 use Rattle.operation.proofs.Hands.{hands-out}
 
--- by one answer: an operation and those that are handed out from the position after it, no more at the end, and none where it is malformed
+-- by one answer: an operation and those that are handed out from the place after it, no more at the end, and none where it is malformed
 unfoldable pub onward : List ℕ → Handed → (ℕ → Option (List operation.Op)) → Option (List operation.Op)
 onward s (Operation o next) rest = more (opOf s o) (rest next)
 onward s (Malformed p) rest = none
 onward s End rest = some []
 
--- the operations of the list s, handed out one after another from a position by n calls, where f says what is answered at each position;
+-- the operations of the list s, handed out one after another from a place by n calls, where f says what is answered at each place;
 -- none where the n calls do not reach the end
 unfoldable pub handedOut : List ℕ → (ℕ → Handed) → ℕ → ℕ → Option (List operation.Op)
 handedOut s f zero at = none
@@ -65,7 +65,7 @@ module _ (s : List ℕ) where
     from-position (suc n) at l b =
         onward-parses at (f at) (handedOut s f n) (hands-out s octets at (f at) (each at l)) (λ next a e. from-position n next e (omega (arith, a, b)))
 
-    -- if each answer is the one that the contract of `next` gives a reader at that position, then those from the start to the end are the list's
+    -- if each answer is the one that the contract of `next` gives a reader at that place, then those from the start to the end are the list's
     -- operations, and none where one is malformed. Any number of calls above that of its octets is enough
     pub to-the-end : (n : ℕ) → length s < n → handedOut s f n 0 ≡ parse s
     to-the-end n b = from-position n 0 (omega arith) (omega (arith, b))

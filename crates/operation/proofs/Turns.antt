@@ -1,4 +1,4 @@
--- One turn of a loop over the operations of a list: what is parsed and what is broken from a position on, by what the position hands out.
+-- One turn of a loop over the operations of a list: what is parsed and what is broken from a place on, by what the place hands out.
 use Prim.Native.Nat.{ℕ, _+_, _≤_, _<_}
 use native.Mathlib.Omega.{arith}
 use mathlib.Core.Path.{_≡_, refl, sym, ap, _∙_}
@@ -40,7 +40,7 @@ Reached n at (Operation o next) = (at < next) × (next ≤ n) × Inside n o
 Reached n at (Malformed p) = p ≡ inMessage at
 Reached n at End = Unit {0}
 
--- r is what the list s hands out at a position, wherever a set's value lies
+-- r is what the list s hands out at a place, wherever a set's value lies
 abbrev pub HandsOut : List ℕ → ℕ → Handed → Type 0
 HandsOut s at r = (handing s r ≡ first (drop at s)) × Reached (length s) at r
 
@@ -59,7 +59,7 @@ parse-first (c ∷ s) = parse-step c s
 parse-handing : (s : List ℕ) (at : ℕ) (r : Handed) → handing s r ≡ first (drop at s) → parse (drop at s) ≡ parsed (handing s r)
 parse-handing s at r e = parse-first (drop at s) ∙ ap parsed (sym e)
 
--- an operation: the rest is parsed from the position after it
+-- an operation: the rest is parsed from the place after it
 pub turn : (s : List ℕ) (at next : ℕ) (o : Op) → handing s (Operation o next) ≡ first (drop at s)
     → parse (drop at s) ≡ more (opOf s o) (parse (drop next s))
 unfolding parsed handing follow

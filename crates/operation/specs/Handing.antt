@@ -53,7 +53,7 @@ Inside n (Unsubscribe name) = name < 65536
 
 -- ---- what a list hands out
 
--- an operation that stands at a position: the value of a set lies behind its code, its name and its length, 5 octets
+-- an operation that stands at a place: the value of a set lies behind its code, its name and its length, 5 octets
 unfoldable pub opAt : ℕ → operation.Op → Op
 opAt at capabilities = Capabilities
 opAt at (read n) = Read n
@@ -66,12 +66,12 @@ unfoldable pub foundAt : ℕ → ℕ → Next → Handed
 foundAt n at bad = Malformed (inMessage at)
 foundAt n at (got o behind) = Operation (opAt at o) (n - length behind)
 
--- the end where no octet is left at the position, else what the first operation of those left is
+-- the end where no octet is left at the place, else what the first operation of those left is
 unfoldable pub handedFrom : ℕ → ℕ → List ℕ → Handed
 handedFrom n at [] = End
 handedFrom n at (c ∷ s) = foundAt n at (shaped (shape c) s)
 
--- what the list s hands out at a position
+-- what the list s hands out at a place
 unfoldable pub handedAt : List ℕ → ℕ → Handed
 handedAt s at = handedFrom (length s) at (drop at s)
 

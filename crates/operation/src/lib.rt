@@ -1,5 +1,5 @@
 // The operations of a command, handed out from its list of octets by a reader (RULES 10.10), and whether a list is whole.
-// What is handed out is what `meaning` finds at the position.
+// What is handed out is what `meaning` finds at the place.
 ghost use mathlib.Core.Path.{_≡_};
 ghost use Rattle.operation.specs.Handing.{nameOf, fromOf, sizeOf, handedAt, wholeness};
 
@@ -12,15 +12,15 @@ pub enum Op {
     Unsubscribe(usize),
 }
 
-// What a list hands out at a place: an operation and the place after it; that one is malformed or cut short, and its position in the message;
-// the end.
+// What a list hands out at a place: an operation and the place after it; the position in the message of one that is
+// malformed or cut short; the end.
 pub enum Handed {
     Operation(Op, usize),
     Malformed(usize),
     End,
 }
 
-// The operation at a position of a list; the end for every position past its last octet.
+// The operation at a place of a list; the end for every place past its last octet.
 pub fn operation_at(list: &[u8], at: usize) -> Handed
     ensures { λ r. ⌜ r ≡ handedAt (now (list .entry)) at ⌝ }
 {
@@ -58,7 +58,7 @@ pub fn operation_at(list: &[u8], at: usize) -> Handed
     Handed::Operation(op, at + 3)
 }
 
-// A reader: the list that is read, and the position at which it goes on.
+// A reader: the list that is read, and the place at which it goes on.
 pub struct Reader<'a> {
     pub list: &'a [u8],
     pub at: usize,
@@ -71,28 +71,29 @@ pub fn reader_of<'a>(list: &'a [u8]) -> Reader<'a>
     Reader { list, at: 0 }
 }
 
-// What a reader hands out at its position.
+// What a reader hands out at its place.
 pub fn next<'a>(r: Reader<'a>) -> Handed
     ensures { λ h. ⌜ h ≡ handedAt (now (r .entry .list)) (r .entry .at) ⌝ }
 {
     operation_at(r.list, r.at)
 }
 
-// The reader moved to another position.
+// The reader moved to another place.
 pub fn moved<'a>(r: Reader<'a>, at: usize) -> Reader<'a>
     ensures { λ m. ⌜ (m .list ≡ r .entry .list) × (m .at ≡ at) ⌝ }
 {
     Reader { list: r.list, at }
 }
 
-// What a reader of a list hands out at a position. Its parameters are plain, so whoever calls it is proved without a walk of the code.
+// What a reader of a list hands out at a place. Its parameters are plain, so whoever calls it is proved without a walk of the code.
 pub fn hand_out(list: &[u8], at: usize) -> Handed
     ensures { λ r. ⌜ r ≡ handedAt (now (list .entry)) at ⌝ }
 {
     next(moved(reader_of(list), at))
 }
 
-// Whether each octet of a list belongs to a whole operation; else the position in the message of the first operation that is malformed or cut short.
+// Whether each octet of a list belongs to a whole operation; else the position in the message of the first one that is
+// malformed or cut short.
 pub enum Wholeness {
     Whole,
     Broken(usize),
