@@ -11,7 +11,7 @@ use Rattle.meaning.specs.Table.{place, entryCount}
 use Rattle.meaning.specs.Memory.{present}
 use Rattle.meaning.specs.Step.{update, updateError, readAnswer, setChecks, setAnswer, step, answer}
 use Rattle.operation.specs.declared.Op.{Op}
-use Rattle.operation.specs.declared.Op.the-variants.{Capabilities, Read, Set, Subscribe, Unsubscribe}
+use Rattle.operation.specs.declared.Op.the-variants.{Capabilities, Read, Set, Subscribe, Unsubscribe, SelectiveRead, SelectiveSubscribe, SelectiveUnsubscribe, DeleteEntry}
 use Rattle.operation.specs.Handing.{opOf, nameOf, fromOf, sizeOf}
 use Rattle.command.specs.declared.Answer.{Answer}
 use Rattle.command.specs.Answers.{answerOf, InTable, told}
@@ -46,12 +46,16 @@ module _ (m s : List ℕ) where
       go (suc c) = (refl, tt)
 
   tells : (o : Op) → Tells o (told (answer m (opOf s o)))
-  unfolding answerOf told opOf answer
+  unfolding answerOf told opOf nameOf answer
   tells Capabilities = (refl, tt)
   tells (Read n) = read-tells n
   tells (Set n from size) = set-tells n from size
   tells (Subscribe n) = (refl, tt)
   tells (Unsubscribe n) = (refl, tt)
+  tells (SelectiveRead n from size) = (refl, tt)
+  tells (SelectiveSubscribe n from size) = (refl, tt)
+  tells (SelectiveUnsubscribe n from size) = (refl, tt)
+  tells (DeleteEntry n from size) = (refl, tt)
 
   -- for the answer and the memory that an operation leaves
   pub told-back : (o : Op) (m′ : List ℕ) (a : Answer) → m′ ≡ step m (opOf s o) → a ≡ told (answer m (opOf s o)) → (answerOf m′ s o a ≡ answer m (opOf s o)) × InTable a

@@ -4,7 +4,7 @@ use mathlib.Core.Path.{_≡_, refl}
 use mathlib.Core.Bool.{Bool, true, false, _||_, true≢false}
 use mathlib.Core.List.{List, [], _∷_, map}
 use Rattle.meaning.specs.Checks.{firstFailed, whenPassed}
-use Rattle.meaning.specs.Operation.{Op, capabilities, read, set, subscribe, unsubscribe}
+use Rattle.meaning.specs.Operation.{Op, capabilities, read, set, subscribe, unsubscribe, selectiveRead, selectiveSubscribe, selectiveUnsubscribe, deleteEntry}
 use Rattle.meaning.specs.Table.{place}
 use Rattle.meaning.specs.Memory.{store}
 use Rattle.meaning.specs.Step.{value, readError, update, updateError, shown, readChecks, readAnswer, setChecks, stored, setAnswer, setMemory, step, answer, after, answers}
@@ -25,6 +25,10 @@ step-unchanged m (set n v) e = go (firstFailed (setChecks m n v)) e
     go (suc c) e = refl
 step-unchanged m (subscribe n) e = absurd (true≢false e)
 step-unchanged m (unsubscribe n) e = absurd (true≢false e)
+step-unchanged m (selectiveRead n v) e = refl
+step-unchanged m (selectiveSubscribe n v) e = refl
+step-unchanged m (selectiveUnsubscribe n v) e = refl
+step-unchanged m (deleteEntry n v) e = refl
 
 pub after-unchanged : (m : List ℕ) (os : List Op) → anyChange (answers m os) ≡ false → after m os ≡ m
 unfolding anyChange answers after

@@ -149,6 +149,10 @@ pub fn carry_out(m: &mut [u8], list: &[u8], op: Op) -> Answer
             unsubscribe(m, name);
             Answer::Silent
         }
+        Op::SelectiveRead(_, _, _) => Answer::ReadError(wire::CAUSE_PROTOCOL_ERROR),
+        Op::SelectiveSubscribe(_, _, _) => Answer::Silent,
+        Op::SelectiveUnsubscribe(_, _, _) => Answer::Silent,
+        Op::DeleteEntry(_, _, _) => Answer::UpdateError(wire::CAUSE_PROTOCOL_ERROR),
     }
 }
 

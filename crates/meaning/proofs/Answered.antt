@@ -1,4 +1,5 @@
--- Law 3: every read and every set is answered exactly once, as value or cause, in list order (RULES 19.4), and with what the rules give.
+-- Law 3: every read and every set, selective reads and deletes of entries among them, is answered exactly once, as value or cause, in list order
+-- (RULES 19.4), and with what the rules give.
 use Prim.Native.Nat.{ℕ, zero, suc, _+_, _≤_, _<_}
 use native.Mathlib.Omega.{arith}
 use mathlib.Core.Path.{_≡_, refl}
@@ -12,7 +13,7 @@ use Rattle.meaning.specs.Checks.{passed, check, firstFailed, whenPassed}
 use Rattle.meaning.specs.Table.{rowAt, place, listed, byController, entryCount, commit}
 use Rattle.meaning.specs.Block.{sums}
 use Rattle.meaning.specs.Memory.{present, body, room, store}
-use Rattle.meaning.specs.Operation.{Op, capabilities, read, set, subscribe, unsubscribe}
+use Rattle.meaning.specs.Operation.{Op, capabilities, read, set, subscribe, unsubscribe, selectiveRead, selectiveSubscribe, selectiveUnsubscribe, deleteEntry}
 use Rattle.meaning.specs.Step.{Answer, names, value, readError, update, updateError, silent, shown, readChecks, readAnswer, permitted, setChecks, setAnswer, stored, setMemory, subscribeMemory, unsubscribeMemory, step, answer, answers}
 use Rattle.meaning.specs.Reply.{Records, kinds, noRecords, joined, held, failed, recordOf, gathered}
 use Rattle.meaning.specs.Calls.{records}
@@ -43,7 +44,8 @@ withUpdateError n c r = kinds (r .capabilities) (r .values) (r .readErrors) (r .
 abbrev pub withLongUpdate : ℕ → List ℕ → Records → Records
 withLongUpdate n v r = kinds (r .capabilities) (r .values) (r .readErrors) (r .updates) (r .updateErrors) (held n v ++ r .longUpdates)
 
--- ---- the records that answer a list of operations on a memory: one for each read and each set, and whose
+-- ---- the records that answer a list of operations on a memory: one for each read and each set, selective reads and deletes of entries among
+-- them, and whose
 
 -- the memory after a set that succeeds
 abbrev pub successor : List ℕ → ℕ → List ℕ → List ℕ
@@ -70,6 +72,10 @@ pub data Answered : List ℕ → List Op → Records → Type 0 where
       → Answered m os r → Answered m (set n v ∷ os) (withUpdateError n 0x02 r)
   subscribes : {m : List ℕ} {n : ℕ} {os : List Op} {r : Records} → Answered (subscribeMemory m n) os r → Answered m (subscribe n ∷ os) r
   unsubscribes : {m : List ℕ} {n : ℕ} {os : List Op} {r : Records} → Answered (unsubscribeMemory m n) os r → Answered m (unsubscribe n ∷ os) r
+  readsSelected : {m : List ℕ} {n : ℕ} {v : List ℕ} {os : List Op} {r : Records} → Answered m os r → Answered m (selectiveRead n v ∷ os) (withReadError n 0x6F r)
+  subscribesSelected : {m : List ℕ} {n : ℕ} {v : List ℕ} {os : List Op} {r : Records} → Answered m os r → Answered m (selectiveSubscribe n v ∷ os) r
+  unsubscribesSelected : {m : List ℕ} {n : ℕ} {v : List ℕ} {os : List Op} {r : Records} → Answered m os r → Answered m (selectiveUnsubscribe n v ∷ os) r
+  deletesEntry : {m : List ℕ} {n : ℕ} {v : List ℕ} {os : List Op} {r : Records} → Answered m os r → Answered m (deleteEntry n v ∷ os) (withUpdateError n 0x6F r)
 
 -- ---- so many reads, so many answers to reads; and so for sets
 
@@ -80,6 +86,10 @@ reads (read n ∷ os) = suc (reads os)
 reads (set n v ∷ os) = reads os
 reads (subscribe n ∷ os) = reads os
 reads (unsubscribe n ∷ os) = reads os
+reads (selectiveRead n v ∷ os) = suc (reads os)
+reads (selectiveSubscribe n v ∷ os) = reads os
+reads (selectiveUnsubscribe n v ∷ os) = reads os
+reads (deleteEntry n v ∷ os) = reads os
 
 unfoldable pub sets : List Op → ℕ
 sets [] = 0
@@ -88,6 +98,10 @@ sets (read n ∷ os) = sets os
 sets (set n v ∷ os) = suc (sets os)
 sets (subscribe n ∷ os) = sets os
 sets (unsubscribe n ∷ os) = sets os
+sets (selectiveRead n v ∷ os) = sets os
+sets (selectiveSubscribe n v ∷ os) = sets os
+sets (selectiveUnsubscribe n v ∷ os) = sets os
+sets (deleteEntry n v ∷ os) = suc (sets os)
 
 pub record Counts (os : List Op) (r : Records) : Type 0 where
   pub readAnswers : length (r .values) + length (r .readErrors) ≡ reads os
@@ -107,6 +121,10 @@ answered-counts (setsForeign e f a) = let c = answered-counts a in record { read
 answered-counts (setsWrong e f g a) = let c = answered-counts a in record { readAnswers = c .readAnswers; setAnswers = omega arith }
 answered-counts (subscribes a) = let c = answered-counts a in record { readAnswers = c .readAnswers; setAnswers = c .setAnswers }
 answered-counts (unsubscribes a) = let c = answered-counts a in record { readAnswers = c .readAnswers; setAnswers = c .setAnswers }
+answered-counts (readsSelected a) = let c = answered-counts a in record { readAnswers = omega arith; setAnswers = c .setAnswers }
+answered-counts (subscribesSelected a) = let c = answered-counts a in record { readAnswers = c .readAnswers; setAnswers = c .setAnswers }
+answered-counts (unsubscribesSelected a) = let c = answered-counts a in record { readAnswers = c .readAnswers; setAnswers = c .setAnswers }
+answered-counts (deletesEntry a) = let c = answered-counts a in record { readAnswers = c .readAnswers; setAnswers = omega arith }
 
 -- ---- the records of a run are such
 
@@ -155,6 +173,10 @@ answered m (read n ∷ os) = read-answered m n os (records m os) (answered m os)
 answered m (set n v ∷ os) = set-answered m n v os (λ m′. records m′ os) (λ m′. answered m′ os)
 answered m (subscribe n ∷ os) = subscribes (answered (subscribeMemory m n) os)
 answered m (unsubscribe n ∷ os) = unsubscribes (answered (unsubscribeMemory m n) os)
+answered m (selectiveRead n v ∷ os) = readsSelected (answered m os)
+answered m (selectiveSubscribe n v ∷ os) = subscribesSelected (answered m os)
+answered m (selectiveUnsubscribe n v ∷ os) = unsubscribesSelected (answered m os)
+answered m (deleteEntry n v ∷ os) = deletesEntry (answered m os)
 
 -- ---- every record of a run can be read back: its name and its length have two octets each
 
@@ -197,6 +219,10 @@ answer-good m (read n) f =
 answer-good m (set n v) f = passed-good GoodAnswer (firstFailed (setChecks m n v)) (update n v) (updateError n) (λ e. f) (λ k. f .0)
 answer-good m (subscribe n) f = tt
 answer-good m (unsubscribe n) f = tt
+answer-good m (selectiveRead n v) f = f .0
+answer-good m (selectiveSubscribe n v) f = tt
+answer-good m (selectiveUnsubscribe n v) f = tt
+answer-good m (deleteEntry n v) f = f .0
 
 pub good-joined : (r s : Records) → Good r → Good s → Good (joined r s)
 good-joined r s f g =

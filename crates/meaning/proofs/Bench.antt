@@ -76,7 +76,7 @@ examples a b c d =
     ∷ example (nanoseconds 1) 0 (0 ∷ 0 ∷ 1 ∷ 0 ∷ 0 ∷ 0 ∷ 0 ∷ 0 ∷ [])
     ∷ example (nanoseconds (2 ^ 47 - 1)) 0 (0 ∷ 0 ∷ 0xFF ∷ 0xFF ∷ 0xFF ∷ 0xFF ∷ 0xFF ∷ 0x7F ∷ [])
     ∷ example (nanoseconds (2 ^ 47)) 0 (0xFF ∷ 0xFF ∷ 0xFF ∷ 0xFF ∷ 0xFF ∷ 0xFF ∷ 0xFF ∷ 0x7F ∷ [])
-    ∷ example (sent (1 ∷ 0 ∷ 1 ∷ 6 ∷ [])) 6 []
+    ∷ example (sent (1 ∷ 0 ∷ 1 ∷ 0x0A ∷ [])) 6 []
     ∷ example (sent (1 ∷ 0 ∷ 6 ∷ 3 ∷ 0 ∷ 3 ∷ 0 ∷ 2 ∷ 1 ∷ [])) 6 []
     ∷ []
 

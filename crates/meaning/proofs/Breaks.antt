@@ -14,16 +14,16 @@ use Rattle.meaning.specs.Operation.{Op, shape, Next, bad, got, whole, sh
 use Rattle.meaning.proofs.Lists.{Each, Octets}
 use Rattle.meaning.proofs.Encode.{encode, Fine, firstOf, first-encoded, Split, shape-right, Shorter, shaped-shorter, same-bound, parse-step}
 
--- ---- what is no whole operation, on its octets (RULES 10.4 to 10.10)
+-- ---- what is no whole operation, on its octets (RULES 10.4 to 10.10, 10.15 to 10.18)
 
--- a code and the octets behind it, up to the end of the L octets: the code is none of the five; or the name is missing, or half of it; or of a set
--- the length, or some of the value
+-- a code and the octets behind it, up to the end of the L octets: the code is 0, or 0A or more; or the name is missing, or half of it; or, of a set
+-- and of the four that are laid out as a set, the length, or some of the value
 abbrev pub Unreadable : List ℕ → Type 0
 Unreadable [] = ⊥
 Unreadable (c ∷ s) =
-    ((c ≢ 1) × (c ≢ 2) × (c ≢ 3) × (c ≢ 4) × (c ≢ 5))
+    ((c ≡ 0) ⊎ (0x0A ≤ c))
     ⊎ ((((c ≡ 2) ⊎ ((c ≡ 4) ⊎ (c ≡ 5))) × (length s < 2))
-    ⊎ ((c ≡ 3) × (length s < 4 + (octet s 2 * 256 + octet s 3))))
+    ⊎ (((c ≡ 3) ⊎ ((c ≡ 6) ⊎ ((c ≡ 7) ⊎ ((c ≡ 8) ⊎ (c ≡ 9))))) × (length s < 4 + (octet s 2 * 256 + octet s 3))))
 
 bad≢got : (o : Op) (r : List ℕ) → bad ≡ got o r → ⊥
 bad≢got o r e = false≢true (ap isGot e)
@@ -49,21 +49,42 @@ short-whole w s o e = at (decLe w (length s))
 unreadable-bad : (s : List ℕ) → Unreadable s → firstOf s ≡ bad
 unfolding shape shaped at16
 unreadable-bad [] u = absurd u
-unreadable-bad (c ∷ s) (inl n) = rw (ne-eqb c 1 (n .0), ne-eqb c 2 (n .1), ne-eqb c 3 (n .2), ne-eqb c 4 (n .3), ne-eqb c 5 (n .4))
+unreadable-bad (c ∷ s) (inl (inl e)) = rw e
+unreadable-bad (c ∷ s) (inl (inr h)) =
+    let no : (d : ℕ) → d ≤ 9 → c ≢ d = λ d l e. omega arith in
+    rw (
+      ne-eqb c 1 (no 1 (omega arith)),
+      ne-eqb c 2 (no 2 (omega arith)),
+      ne-eqb c 3 (no 3 (omega arith)),
+      ne-eqb c 4 (no 4 (omega arith)),
+      ne-eqb c 5 (no 5 (omega arith)),
+      ne-eqb c 6 (no 6 (omega arith)),
+      ne-eqb c 7 (no 7 (omega arith)),
+      ne-eqb c 8 (no 8 (omega arith)),
+      ne-eqb c 9 (no 9 (omega arith)),
+    )
 unreadable-bad (c ∷ s) (inr (inl (inl e, h))) = rw e (whole-short 2 s _ h)
 unreadable-bad (c ∷ s) (inr (inl (inr (inl e), h))) = rw e (whole-short 2 s _ h)
 unreadable-bad (c ∷ s) (inr (inl (inr (inr e), h))) = rw e (whole-short 2 s _ h)
-unreadable-bad (c ∷ s) (inr (inr (e, h))) = rw e (whole-short (4 + (octet s 2 * 256 + octet s 3)) s _ h)
+unreadable-bad (c ∷ s) (inr (inr (inl e, h))) = rw e (whole-short (4 + (octet s 2 * 256 + octet s 3)) s _ h)
+unreadable-bad (c ∷ s) (inr (inr (inr (inl e), h))) = rw e (whole-short (4 + (octet s 2 * 256 + octet s 3)) s _ h)
+unreadable-bad (c ∷ s) (inr (inr (inr (inr (inl e)), h))) = rw e (whole-short (4 + (octet s 2 * 256 + octet s 3)) s _ h)
+unreadable-bad (c ∷ s) (inr (inr (inr (inr (inr (inl e))), h))) = rw e (whole-short (4 + (octet s 2 * 256 + octet s 3)) s _ h)
+unreadable-bad (c ∷ s) (inr (inr (inr (inr (inr (inr e))), h))) = rw e (whole-short (4 + (octet s 2 * 256 + octet s 3)) s _ h)
 
 bad-unreadable : (c : ℕ) (s : List ℕ) → firstOf (c ∷ s) ≡ bad → Unreadable (c ∷ s)
 unfolding shape shaped at16
-bad-unreadable zero s e = inl (λ x. omega arith, λ x. omega arith, λ x. omega arith, λ x. omega arith, λ x. omega arith)
+bad-unreadable zero s e = inl (inl refl)
 bad-unreadable (suc zero) s e = absurd (bad≢got _ _ (sym e))
 bad-unreadable (suc (suc zero)) s e = inr (inl (inl refl, short-whole 2 s _ e))
-bad-unreadable (suc (suc (suc zero))) s e = inr (inr (refl, short-whole (4 + (octet s 2 * 256 + octet s 3)) s _ e))
+bad-unreadable (suc (suc (suc zero))) s e = inr (inr (inl refl, short-whole (4 + (octet s 2 * 256 + octet s 3)) s _ e))
 bad-unreadable (suc (suc (suc (suc zero)))) s e = inr (inl (inr (inl refl), short-whole 2 s _ e))
 bad-unreadable (suc (suc (suc (suc (suc zero))))) s e = inr (inl (inr (inr refl), short-whole 2 s _ e))
-bad-unreadable (suc (suc (suc (suc (suc (suc n)))))) s e = inl (λ x. omega arith, λ x. omega arith, λ x. omega arith, λ x. omega arith, λ x. omega arith)
+bad-unreadable (suc (suc (suc (suc (suc (suc zero)))))) s e = inr (inr (inr (inl refl), short-whole (4 + (octet s 2 * 256 + octet s 3)) s _ e))
+bad-unreadable (suc (suc (suc (suc (suc (suc (suc zero))))))) s e = inr (inr (inr (inr (inl refl)), short-whole (4 + (octet s 2 * 256 + octet s 3)) s _ e))
+bad-unreadable (suc (suc (suc (suc (suc (suc (suc (suc zero)))))))) s e = inr (inr (inr (inr (inr (inl refl))), short-whole (4 + (octet s 2 * 256 + octet s 3)) s _ e))
+bad-unreadable (suc (suc (suc (suc (suc (suc (suc (suc (suc zero))))))))) s e = inr (inr (inr (inr (inr (inr refl))), short-whole (4 + (octet s 2 * 256 + octet s 3)) s _ e))
+bad-unreadable (suc (suc (suc (suc (suc (suc (suc (suc (suc (suc n)))))))))) s e = inl (inr (omega arith))
 
 -- ---- `broken` with no bound
 

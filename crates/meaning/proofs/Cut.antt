@@ -291,6 +291,17 @@ spelt-parts (os ∷ oss) n f = (
   spelt-parts oss (n .1) (each-right Fine os (allOps oss) f),
 )
 
+-- such operations, sent in one command, are carried out where their reply fits
+pub sent-operations : (m room : List ℕ) (os : List Op) → sound m ≡ true → NonEmpty os → Each Fine os → 3 + length (flat encode os) ≤ 2048
+    → Fits (length room) (records m os) → message m (commandOf (flat encode os)) room ≡ done (complete (records m os)) (after m os) room
+unfolding opsIn
+sent-operations m room os s n f long fit =
+    let p = flat encode os in
+    let e : parse p ≡ some os = parse-encoded os f in
+    let part : Part p = record { nonzero = spelt-some os n; whole = ap isSome e } in
+    let q : orNone (parse p) ≡ os = ap orNone e in
+    accepted-call m (commandOf p) room os (rw q at (part-accepted m (length room) p s part long (rw q fit)))
+
 pub cut-operations : (m s room : List ℕ) → Octets s → isCommand s ≡ true → message m s room .number ≡ 0
     → (oss : List (List Op)) → Each NonEmpty oss → allOps oss ≡ opsOf s
     → Cut m (sendsWith m (inOneRoom m room (spelt oss))) (message m s room .memory) (decode (message m s room .written))

@@ -10,7 +10,7 @@ use lib.Seq.{take-at, drop-at, length-take-le, drop-drop}
 use lib.Dec.{eqb, leb}
 use borrow.Author.Tests.{leb-true, le-leb, eqb-true}
 use Rattle.meaning.specs.Octets.{at16, be16, part, flat}
-use Rattle.meaning.specs.Operation.{Op, capabilities, read, set, subscribe, unsubscribe, Shape, alone, named, valued, malformed, shape, Next, bad, got, whole, shaped, more, follow, parseIn, parse}
+use Rattle.meaning.specs.Operation.{Op, capabilities, read, set, subscribe, unsubscribe, selectiveRead, selectiveSubscribe, selectiveUnsubscribe, deleteEntry, Shape, alone, named, valued, malformed, shape, Next, bad, got, whole, shaped, more, follow, parseIn, parse}
 use Rattle.meaning.proofs.Lists.{Each, Octets, each-drop, at16-be16, at16-second, be16-at16}
 
 unfoldable pub encode : Op → List ℕ
@@ -19,6 +19,10 @@ encode (read n) = 2 ∷ be16 n
 encode (set n v) = 3 ∷ be16 n ++ (be16 (length v) ++ v)
 encode (subscribe n) = 4 ∷ be16 n
 encode (unsubscribe n) = 5 ∷ be16 n
+encode (selectiveRead n v) = 6 ∷ be16 n ++ (be16 (length v) ++ v)
+encode (selectiveSubscribe n v) = 7 ∷ be16 n ++ (be16 (length v) ++ v)
+encode (selectiveUnsubscribe n v) = 8 ∷ be16 n ++ (be16 (length v) ++ v)
+encode (deleteEntry n v) = 9 ∷ be16 n ++ (be16 (length v) ++ v)
 
 -- an operation that two octets of name and two of length can carry
 abbrev pub Fine : Op → Type 0
@@ -27,6 +31,10 @@ Fine (read n) = n < 65536
 Fine (set n v) = (n < 65536) × (length v < 65536)
 Fine (subscribe n) = n < 65536
 Fine (unsubscribe n) = n < 65536
+Fine (selectiveRead n v) = (n < 65536) × (length v < 65536)
+Fine (selectiveSubscribe n v) = (n < 65536) × (length v < 65536)
+Fine (selectiveUnsubscribe n v) = (n < 65536) × (length v < 65536)
+Fine (deleteEntry n v) = (n < 65536) × (length v < 65536)
 
 pub encode-some : (o : Op) → 1 ≤ length (encode o)
 unfolding encode
@@ -35,6 +43,10 @@ encode-some (read n) = omega arith
 encode-some (set n v) = omega arith
 encode-some (subscribe n) = omega arith
 encode-some (unsubscribe n) = omega arith
+encode-some (selectiveRead n v) = omega arith
+encode-some (selectiveSubscribe n v) = omega arith
+encode-some (selectiveUnsubscribe n v) = omega arith
+encode-some (deleteEntry n v) = omega arith
 
 -- ---- the first operation of a list of octets
 
@@ -79,6 +91,10 @@ first-encoded (read n) r f = named-first read n r f
 first-encoded (set n v) r f = valued-first set n v r (f .0) (f .1)
 first-encoded (subscribe n) r f = named-first subscribe n r f
 first-encoded (unsubscribe n) r f = named-first unsubscribe n r f
+first-encoded (selectiveRead n v) r f = valued-first selectiveRead n v r (f .0) (f .1)
+first-encoded (selectiveSubscribe n v) r f = valued-first selectiveSubscribe n v r (f .0) (f .1)
+first-encoded (selectiveUnsubscribe n v) r f = valued-first selectiveUnsubscribe n v r (f .0) (f .1)
+first-encoded (deleteEntry n v) r f = valued-first deleteEntry n v r (f .0) (f .1)
 
 step-encoded : (k : ℕ) (o : Op) (r : List ℕ) → parseIn (suc k) (encode o ++ r) ≡ follow (firstOf (encode o ++ r)) (λ s. parseIn k s)
 unfolding parseIn encode
@@ -87,6 +103,10 @@ step-encoded k (read n) r = refl
 step-encoded k (set n v) r = refl
 step-encoded k (subscribe n) r = refl
 step-encoded k (unsubscribe n) r = refl
+step-encoded k (selectiveRead n v) r = refl
+step-encoded k (selectiveSubscribe n v) r = refl
+step-encoded k (selectiveUnsubscribe n v) r = refl
+step-encoded k (deleteEntry n v) r = refl
 
 encoded-in : (os : List Op) (k : ℕ) → Each Fine os → length (flat encode os) ≤ k → parseIn k (flat encode os) ≡ some os
 unfolding parseIn flat follow more
@@ -178,7 +198,11 @@ shape-right c =
     (choice-right c 3 _ _ (valued-right 3 set (λ n v h k. (h, k)) (λ n v. refl))
     (choice-right c 4 _ _ (named-right 4 subscribe (λ n h. h) (λ n. refl))
     (choice-right c 5 _ _ (named-right 5 unsubscribe (λ n h. h) (λ n. refl))
-    (malformed-right c)))))
+    (choice-right c 6 _ _ (valued-right 6 selectiveRead (λ n v h k. (h, k)) (λ n v. refl))
+    (choice-right c 7 _ _ (valued-right 7 selectiveSubscribe (λ n v h k. (h, k)) (λ n v. refl))
+    (choice-right c 8 _ _ (valued-right 8 selectiveUnsubscribe (λ n v h k. (h, k)) (λ n v. refl))
+    (choice-right c 9 _ _ (valued-right 9 deleteEntry (λ n v h k. (h, k)) (λ n v. refl))
+    (malformed-right c)))))))))
 
 abbrev Spelt : List ℕ → Option (List Op) → Type 0
 Spelt s none = Unit {0}

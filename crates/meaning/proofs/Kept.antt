@@ -14,7 +14,7 @@ use Rattle.meaning.specs.Checks.{firstFailed, whenPassed}
 use Rattle.meaning.specs.Table.{Row, rowAt, rows, byPort, byController, place, listed, entryCount, memoryLength, commit}
 use Rattle.meaning.specs.Block.{sums, permits, keeps, formAndFit}
 use Rattle.meaning.specs.Memory.{cell, store, setMarks, setTimer, subscribed, pending, isPending, isSubscribed, expiries, fourPresent, timerSound, sound, fresh}
-use Rattle.meaning.specs.Operation.{Op, capabilities, read, set, subscribe, unsubscribe}
+use Rattle.meaning.specs.Operation.{Op, capabilities, read, set, subscribe, unsubscribe, selectiveRead, selectiveSubscribe, selectiveUnsubscribe, deleteEntry}
 use Rattle.meaning.specs.Step.{block, commits, permitted, setChecks, stored, setMemory, subscribeMemory, unsubscribeMemory, step, after}
 use Rattle.meaning.specs.Calls.{Outcome, numberOnly, call, handled, carriedOut, acknowledged, isCommand, messageChecks, message, opsOf, localPermitted, differs, localMemory, localChecks, localValue, cleared, buildChecks, build, expired, expiryChecks, expiry, makeFresh}
 use Rattle.meaning.proofs.All.{all}
@@ -139,6 +139,10 @@ step-sound m (read n) s = s
 step-sound m (set n v) s = set-sound m n v s
 step-sound m (subscribe n) s = subscribe-sound m n s
 step-sound m (unsubscribe n) s = unsubscribe-sound m n s
+step-sound m (selectiveRead n v) s = s
+step-sound m (selectiveSubscribe n v) s = s
+step-sound m (selectiveUnsubscribe n v) s = s
+step-sound m (deleteEntry n v) s = s
 
 pub after-sound : (m : List ℕ) (os : List Op) → sound m ≡ true → sound (after m os) ≡ true
 unfolding after

@@ -30,6 +30,7 @@ pub mod Captures
 pub mod Answered
 pub mod Accepted
 pub mod Cut
+pub mod Selective
 pub mod Ignored
 pub mod Notified
 pub mod ReadBack

@@ -10,7 +10,7 @@ use Rattle.meaning.specs.Memory.{fresh}
 use Rattle.meaning.specs.Calls.{Outcome}
 use Rattle.meaning.proofs.All.{all}
 use Rattle.meaning.proofs.Sendings.{Call, refresh, takeMessage, takeValue, buildIn, takeExpiry, gives}
-use Rattle.meaning.proofs.Wording.{twoOctets, withLength, reading, setting, subscribing, unsubscribing, heldRecord, shortRecord, failedRecord, withCount}
+use Rattle.meaning.proofs.Wording.{twoOctets, withLength, reading, setting, subscribing, unsubscribing, likeSet, heldRecord, shortRecord, failedRecord, withCount}
 use Rattle.meaning.proofs.Bench.{Result, tableNames}
 use Rattle.meaning.proofs.Edges.{four, one, two, times, right, exact, blockOf}
 use Rattle.meaning.proofs.Laid.{LaidEntry, holding, laid, with, fresh-entries, runningBlock, full}
@@ -194,6 +194,38 @@ pub unsound-life : agrees (lived [] (refresh ∷ takeMessage (1 ∷ 0 ∷ 1 ∷ 
 unfolding all gives agrees sameOctets sameResults lived
 unsound-life = refl
 
+-- ---- what a controller of Release 18 asks, and the port does not serve
+
+-- names and values with which another operation would be done, and others; a name is subscribed, one is not
+unfoldable pub unserved : List Turn
+unfolding command subscribing setting reading likeSet withLength twoOctets heldRecord shortRecord failedRecord withCount two times
+unserved =
+    turn (command (subscribing 0x00A4 ∷ setting 0x0003 (1 ∷ []) ∷ [])) 0 (0x02 ∷ 0x72 ∷ withLength (withCount (shortRecord 0x0003 (1 ∷ []) ∷ []) ++ withCount []))
+    ∷ turn (command (likeSet 6 0x0003 [] ∷ reading 0x0003 ∷ likeSet 6 0x0002 (1 ∷ 2 ∷ []) ∷ reading 0x0002 ∷ likeSet 6 0x0004 (zeros 10) ∷ likeSet 9 0x0003 (0 ∷ [])
+    ∷ setting 0x0002 []
+    ∷ likeSet 9 0xFFFF (zeros 300)
+    ∷ likeSet 7 0x0008 []
+    ∷ likeSet 8 0x00A4 []
+    ∷ [])) 0
+    (0x02 ∷ 0x71
+    ∷ withLength (withCount (heldRecord 0x0003 (1 ∷ []) ∷ [])
+    ++ withCount (failedRecord 0x0003 0x6F ∷ failedRecord 0x0002 0x6F ∷ failedRecord 0x0002 1 ∷ failedRecord 0x0004 0x6F ∷ []))
+    ++ (0x72 ∷ withLength (withCount [] ++ withCount (failedRecord 0x0003 0x6F ∷ failedRecord 0x0002 1 ∷ failedRecord 0xFFFF 0x6F ∷ []))))
+    ∷ turn (command (likeSet 7 0x0008 (zeros 4) ∷ likeSet 8 0x00A4 (zeros 2) ∷ likeSet 7 0xFFFF (zeros 300) ∷ [])) 0 (0x02 ∷ [])
+    ∷ turn (command (likeSet 9 0x0006 (times 37 two) ∷ setting 0x0006 (times 37 two) ∷ likeSet 9 0x0006 (times 37 two) ∷ [])) 0
+    (0x02 ∷ 0x72
+    ∷ withLength (withCount [] ++ (withCount (failedRecord 0x0006 0x6F ∷ failedRecord 0x0006 0x6F ∷ []) ++ withLength (heldRecord 0x0006 (times 37 two)))))
+    ∷ []
+
+-- what was set and subscribed stays as it is, and nothing else is there
+unfoldable pub unserved-entries : List LaidEntry
+unfolding fresh-entries with two times
+unserved-entries = with 1 (holding 0x0003 1 (1 ∷ []) 1) (with 4 (holding 0x0006 1 (times 37 two) 448) (with 17 (holding 0x00A4 2 [] 2) fresh-entries))
+
+pub unserved-life : agrees (lived fresh (calls unserved)) (record { results = results unserved; left = laid unserved-entries 0 0 }) ≡ true
+unfolding all gives agrees sameOctets sameResults lived unserved command subscribing setting reading likeSet withLength twoOctets heldRecord shortRecord failedRecord withCount two times laid with fresh-entries unserved-entries
+unserved-life = refl
+
 -- messages into fresh memory, none of which changes it: each with its room's length
 unfoldable pub refused : List Turn
 unfolding tableNames
@@ -208,7 +240,7 @@ refused =
     ∷ turn (takeMessage (1 ∷ 0 ∷ 2 ∷ 1 ∷ []) (zeros 64)) 5 []
     ∷ turn (takeMessage (1 ∷ 1 ∷ 1 ∷ 1 ∷ []) (zeros 64)) 5 []
     ∷ turn (takeMessage (1 ∷ 0 ∷ 3 ∷ 0 ∷ 0 ∷ 3 ∷ []) (zeros 64)) 6 []
-    ∷ turn (takeMessage (1 ∷ 0 ∷ 2 ∷ 1 ∷ 6 ∷ []) (zeros 64)) 6 []
+    ∷ turn (takeMessage (1 ∷ 0 ∷ 2 ∷ 1 ∷ 0x0A ∷ []) (zeros 64)) 6 []
     ∷ turn (takeMessage (1 ∷ 0 ∷ 2 ∷ 2 ∷ 0 ∷ 3 ∷ []) (zeros 64)) 6 []
     ∷ turn (takeMessage (1 ∷ 0 ∷ 5 ∷ 3 ∷ 0 ∷ 3 ∷ 0 ∷ 1 ∷ 1 ∷ []) (zeros 64)) 6 []
     ∷ turn (takeMessage (1 ∷ 0 ∷ 3 ∷ 2 ∷ 0 ∷ 3 ∷ []) (zeros 10)) 7 []
@@ -221,7 +253,7 @@ pub refused-life : agrees (lived fresh (calls refused)) (record { results = resu
 unfolding all gives agrees sameOctets sameResults lived refused tableNames laid fresh-entries
 refused-life = refl
 
--- so many records of a kind as a count can tell, and one more: reads and sets that fail, and that do not
+-- so many records of a kind as a count can tell, and one more: reads and sets that fail, and that do not; what is not served, alone and among those
 unfoldable pub repeated : ℕ → List ℕ → Call
 unfolding twoOctets withLength times
 repeated n o = takeMessage (1 ∷ withLength (times n o)) (zeros 4096)
@@ -231,6 +263,16 @@ pub counts-life : map (λ (c : Call). gives fresh c .number) (repeated 255 (read
     ∷ repeated 256 (setting 2 [])
     ∷ repeated 255 (setting 3 (1 ∷ []))
     ∷ repeated 256 (setting 3 (1 ∷ []))
-    ∷ []) ≡ 0 ∷ 7 ∷ 0 ∷ 7 ∷ 0 ∷ 7 ∷ 0 ∷ 7 ∷ []
-unfolding all gives repeated twoOctets withLength times reading setting
+    ∷ repeated 255 (likeSet 6 3 [])
+    ∷ repeated 256 (likeSet 6 3 [])
+    ∷ repeated 255 (likeSet 9 3 [])
+    ∷ repeated 256 (likeSet 9 3 [])
+    ∷ repeated 400 (likeSet 7 3 [])
+    ∷ repeated 400 (likeSet 8 3 [])
+    ∷ repeated 127 (reading 2 ++ likeSet 6 3 [])
+    ∷ repeated 128 (reading 2 ++ likeSet 6 3 [])
+    ∷ repeated 127 (setting 2 [] ++ likeSet 9 3 [])
+    ∷ repeated 128 (setting 2 [] ++ likeSet 9 3 [])
+    ∷ []) ≡ 0 ∷ 7 ∷ 0 ∷ 7 ∷ 0 ∷ 7 ∷ 0 ∷ 7 ∷ 0 ∷ 7 ∷ 0 ∷ 7 ∷ 0 ∷ 0 ∷ 0 ∷ 7 ∷ 0 ∷ 7 ∷ []
+unfolding all gives repeated twoOctets withLength times reading setting likeSet
 counts-life = refl

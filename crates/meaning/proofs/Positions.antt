@@ -21,7 +21,7 @@ use Rattle.meaning.proofs.Checked.{call-either}
 use Rattle.meaning.proofs.Kept.{expired-either}
 use Rattle.meaning.proofs.Breaks.{Breaks, break-inside, breaks-there, breaks-is, breaks-none}
 use Rattle.meaning.proofs.Numbers.{Measured, message-6}
-use Rattle.meaning.proofs.Wording.{withLength, twoOctets, reading, setting, subscribing, unsubscribing}
+use Rattle.meaning.proofs.Wording.{withLength, twoOctets, reading, setting, subscribing, unsubscribing, likeSet}
 
 -- ---- number 6
 
@@ -153,7 +153,7 @@ unfolding withLength twoOctets
 breaking t n p = example fresh (1 ∷ withLength t) (zeros 4096) n p
 
 unfoldable pub examples : List Example
-unfolding breaking withLength twoOctets reading setting subscribing unsubscribing
+unfolding breaking withLength twoOctets reading setting subscribing unsubscribing likeSet
 examples =
     -- at the first, a middle and the last operation: by its code, by a name or half of it missing, by a length or a value that passes the end
     breaking (0 ∷ []) 6 3
@@ -165,12 +165,19 @@ examples =
     ∷ breaking (subscribing 0x00A4 ++ (5 ∷ [])) 6 6
     ∷ breaking (1 ∷ unsubscribing 0x00A4 ++ (3 ∷ 0 ∷ 3 ∷ 0 ∷ 2 ∷ 1 ∷ [])) 6 7
     ∷ breaking (setting 0x0042 (zeros 255) ++ (setting 0x0003 (1 ∷ []) ++ (2 ∷ 0 ∷ []))) 6 269
+    -- the same of what is laid out as a set and not served; 0A is nothing, however it is laid out
+    ∷ breaking (6 ∷ []) 6 3
+    ∷ breaking (likeSet 9 0x0003 (1 ∷ []) ++ (7 ∷ 0 ∷ [])) 6 9
+    ∷ breaking (likeSet 6 0x0003 [] ++ (8 ∷ 0 ∷ 3 ∷ 0 ∷ [])) 6 8
+    ∷ breaking (likeSet 7 0x0003 (zeros 300) ++ (9 ∷ 0 ∷ 3 ∷ 0 ∷ 2 ∷ 1 ∷ [])) 6 308
+    ∷ breaking (likeSet 8 0x0003 [] ++ likeSet 0x0A 0x0003 []) 6 8
     -- two of them: the first is told
     ∷ breaking (reading 0x0003 ++ (0 ∷ reading 0x0003 ++ (0 ∷ []))) 6 6
     -- octets behind the L octets complete nothing
     ∷ example fresh (1 ∷ 0 ∷ 4 ∷ 1 ∷ 3 ∷ 0 ∷ 3 ∷ 0 ∷ 1 ∷ 1 ∷ []) (zeros 4096) 6 4
     -- every other number
     ∷ breaking (reading 0x0003) 0 0
+    ∷ breaking (likeSet 6 0x0003 [] ++ (likeSet 7 0x0003 (1 ∷ []) ++ (likeSet 8 0x0003 [] ++ likeSet 9 0x0003 (1 ∷ [])))) 0 0
     ∷ example [] (1 ∷ 0 ∷ 1 ∷ 0 ∷ []) (zeros 4096) 1 0
     ∷ example fresh [] (zeros 4096) 2 0
     ∷ example fresh (1 ∷ withLength (zeros 2046)) (zeros 4096) 3 0
@@ -181,5 +188,5 @@ examples =
     ∷ []
 
 pub positions : map (λ (e : Example). told e) examples ≡ map (λ (e : Example). e .wanted) examples
-unfolding all examples breaking withLength twoOctets reading setting subscribing unsubscribing
+unfolding all examples breaking withLength twoOctets reading setting subscribing unsubscribing likeSet
 positions = refl

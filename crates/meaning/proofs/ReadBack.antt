@@ -22,7 +22,7 @@ use Rattle.meaning.proofs.Checked.{call-done, call-passed}
 use Rattle.meaning.proofs.Places.{name-small}
 use Rattle.meaning.proofs.Records.{read-length, set-length, complete-length}
 use Rattle.meaning.proofs.Decode.{GoodHeld, Good}
-use Rattle.meaning.proofs.Answered.{Answered, end, listsNames, readsValue, readsUnlisted, readsAbsent, setsShort, setsLong, setsUnlisted, setsForeign, setsWrong, subscribes, unsubscribes, answered, records-good}
+use Rattle.meaning.proofs.Answered.{Answered, end, listsNames, readsValue, readsUnlisted, readsAbsent, setsShort, setsLong, setsUnlisted, setsForeign, setsWrong, subscribes, unsubscribes, readsSelected, subscribesSelected, unsubscribesSelected, deletesEntry, answered, records-good}
 use Rattle.meaning.proofs.Accepted.{carried-accepted, accepted-call}
 use Rattle.meaning.proofs.Cut.{whole-fine}
 use Rattle.meaning.proofs.Fronts.{GoodShort, GoodCause, held-front, short-front, failed-front, count-front, count-last, end-front, held-some, longs-spelt}
@@ -235,6 +235,14 @@ readable (setsWrong e f h a) g =
     record { values = c .values; readErrors = c .readErrors; updates = c .updates; updateErrors = ((g .updateErrors .0, refl), c .updateErrors); longUpdates = c .longUpdates }
 readable (subscribes a) g = readable a g
 readable (unsubscribes a) g = readable a g
+readable (readsSelected a) g =
+    let c = readable a (record { values = g .values; readErrors = g .readErrors .1; updates = g .updates; updateErrors = g .updateErrors; longUpdates = g .longUpdates }) in
+    record { values = c .values; readErrors = ((g .readErrors .0, refl), c .readErrors); updates = c .updates; updateErrors = c .updateErrors; longUpdates = c .longUpdates }
+readable (subscribesSelected a) g = readable a g
+readable (unsubscribesSelected a) g = readable a g
+readable (deletesEntry a) g =
+    let c = readable a (record { values = g .values; readErrors = g .readErrors; updates = g .updates; updateErrors = g .updateErrors .1; longUpdates = g .longUpdates }) in
+    record { values = c .values; readErrors = c .readErrors; updates = c .updates; updateErrors = ((g .updateErrors .0, refl), c .updateErrors); longUpdates = c .longUpdates }
 
 module _ (m s room : List ℕ) (o : Octets s) (c : isCommand s ≡ true) (n : message m s room .number ≡ 0) where
   -- its reply reads back: the records that were answered, kind by kind, and the 19 names exactly if capabilities were asked

@@ -15,7 +15,7 @@ use Rattle.meaning.specs.Checks.{firstFailed, whenPassed}
 use Rattle.meaning.specs.Table.{Row, nobody, row, rowAt, rows, placeIn, place, listed, byController, byPort, free, entryCount, commit}
 use Rattle.meaning.specs.Block.{permits}
 use Rattle.meaning.specs.Memory.{present, subscribed, pending, body, store, setMarks, setTimer, sound, expiries}
-use Rattle.meaning.specs.Operation.{Op, capabilities, read, set, subscribe, unsubscribe, breakOf}
+use Rattle.meaning.specs.Operation.{Op, capabilities, read, set, subscribe, unsubscribe, selectiveRead, selectiveSubscribe, selectiveUnsubscribe, deleteEntry, breakOf}
 use Rattle.meaning.specs.Step.{block, commits, permitted, setChecks, stored, setMemory, setAnswer, subscribeMemory, unsubscribeMemory, step, answer, update, after}
 use Rattle.meaning.specs.Calls.{Outcome, done, isCommand, operations, opsOf, carriedOut, acknowledged, handled, messageChecks, located, message, differs, localMemory, localChecks, localValue, cleared, buildChecks, build, expired, expiryChecks, expiry}
 use Rattle.meaning.proofs.Tests.{first-passed, all-passing}
@@ -169,6 +169,10 @@ step-running m (subscribe n) s =
     inl (marks-same m n _ (λ e. setMarks-same m (place n) true (pending m (place n)) (opened m s) (listed-place n e)))
 step-running m (unsubscribe n) s =
     inl (marks-same m n _ (λ e. setMarks-same m (place n) false false (opened m s) (listed-place n e)))
+step-running m (selectiveRead n v) s = inl (same-running m)
+step-running m (selectiveSubscribe n v) s = inl (same-running m)
+step-running m (selectiveUnsubscribe n v) s = inl (same-running m)
+step-running m (deleteEntry n v) s = inl (same-running m)
 
 -- a set of 8001 that meets every condition is carried out
 commit-passes : (m v : List ℕ) → Sound m → Commits m v → firstFailed (setChecks m 0x8001 v) ≡ 0

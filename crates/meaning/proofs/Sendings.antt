@@ -11,7 +11,7 @@ use lib.Dec.{eqb}
 use Rattle.meaning.specs.Octets.{nonempty, zeros}
 use Rattle.meaning.specs.Table.{rowAt, place, listed}
 use Rattle.meaning.specs.Memory.{timer, waiting, expiries, cell, size, present, subscribed, pending, flags, store, setMarks, sound, fresh}
-use Rattle.meaning.specs.Operation.{Op, capabilities, read, set, subscribe, unsubscribe}
+use Rattle.meaning.specs.Operation.{Op, capabilities, read, set, subscribe, unsubscribe, selectiveRead, selectiveSubscribe, selectiveUnsubscribe, deleteEntry}
 use Rattle.meaning.specs.Step.{stored, setMemory, subscribeMemory, unsubscribeMemory, step, after}
 use Rattle.meaning.specs.Calls.{Outcome, numberOnly, isCommand, isAcknowledgement, carriedOut, opsOf, messageChecks, message, differs, localMemory, localChecks, localValue, buildChecks, build, expiry, makeFresh}
 use Rattle.meaning.proofs.All.{all}
@@ -130,6 +130,10 @@ step-timer m (read n) s = refl
 step-timer m (set n v) s = set-timer m n v s
 step-timer m (subscribe n) s = setMarks-timer m n true (pending m (place n)) s
 step-timer m (unsubscribe n) s = setMarks-timer m n false false s
+step-timer m (selectiveRead n v) s = refl
+step-timer m (selectiveSubscribe n v) s = refl
+step-timer m (selectiveUnsubscribe n v) s = refl
+step-timer m (deleteEntry n v) s = refl
 
 pub after-timer : (m : List ℕ) (os : List Op) → sound m ≡ true → timer (after m os) ≡ timer m
 unfolding after

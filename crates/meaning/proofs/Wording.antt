@@ -1,4 +1,4 @@
--- Octets of operations and records, spelt from names, lengths and values as the rules have them (RULES 10.4 to 10.8, 12.6 to 12.11), for laws that compute.
+-- Octets of operations and records, spelt from names, lengths and values as the rules have them (RULES 10.4 to 10.8, 10.15 to 10.18, 12.6 to 12.11), for laws that compute.
 use Prim.Native.Nat.{ℕ, _/_, _%_}
 use mathlib.Core.List.{List, [], _∷_, _++_}
 use lib.ListN.{length}
@@ -28,6 +28,11 @@ subscribing n = 4 ∷ twoOctets n
 unfoldable pub unsubscribing : ℕ → List ℕ
 unfolding twoOctets
 unsubscribing n = 5 ∷ twoOctets n
+
+-- an operation with this code that is laid out as a set
+unfoldable pub likeSet : ℕ → ℕ → List ℕ → List ℕ
+unfolding twoOctets withLength
+likeSet c n v = c ∷ twoOctets n ++ withLength v
 
 -- records: a value behind a length of two octets, of one octet, a cause
 unfoldable pub heldRecord : ℕ → List ℕ → List ℕ

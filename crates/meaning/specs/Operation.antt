@@ -6,7 +6,7 @@ use mathlib.Core.Option.{Option, none, some}
 use lib.ListN.{length, drop}
 use lib.Dec.{eqb, leb}
 use Rattle.meaning.specs.Octets.{at16, part}
-use Rattle.meaning.specs.Wire.{codeCapabilities, codeRead, codeSet, codeSubscribe, codeUnsubscribe}
+use Rattle.meaning.specs.Wire.{codeCapabilities, codeRead, codeSet, codeSubscribe, codeUnsubscribe, codeSelectiveRead, codeSelectiveSubscribe, codeSelectiveUnsubscribe, codeDeleteEntry}
 
 pub data Op : Type 0 where
   capabilities : Op
@@ -14,8 +14,12 @@ pub data Op : Type 0 where
   set : ℕ → List ℕ → Op
   subscribe : ℕ → Op
   unsubscribe : ℕ → Op
+  selectiveRead : ℕ → List ℕ → Op
+  selectiveSubscribe : ℕ → List ℕ → Op
+  selectiveUnsubscribe : ℕ → List ℕ → Op
+  deleteEntry : ℕ → List ℕ → Op
 
--- what follows a code: nothing; a name; a name, a length and a value (RULES 10.4 to 10.8). Others are malformed (RULES 10.9)
+-- what follows a code: nothing; a name; a name, a length and a value (RULES 10.4 to 10.8, 10.15 to 10.18). Others are malformed (RULES 10.9)
 pub data Shape : Type 0 where
   alone : Op → Shape
   named : (ℕ → Op) → Shape
@@ -29,7 +33,11 @@ shape c =
     (cond (eqb c codeSet) (valued set)
     (cond (eqb c codeSubscribe) (named subscribe)
     (cond (eqb c codeUnsubscribe) (named unsubscribe)
-    malformed))))
+    (cond (eqb c codeSelectiveRead) (valued selectiveRead)
+    (cond (eqb c codeSelectiveSubscribe) (valued selectiveSubscribe)
+    (cond (eqb c codeSelectiveUnsubscribe) (valued selectiveUnsubscribe)
+    (cond (eqb c codeDeleteEntry) (valued deleteEntry)
+    malformed))))))))
 
 -- an operation and the octets after it, or one that is malformed or cut short
 pub data Next : Type 0 where

@@ -10,7 +10,7 @@ use Rattle.meaning.specs.Table.{rowAt, place, listed, byController, admi
 use Rattle.meaning.specs.Wire.{causeNotSupported, causeInvalidValue, causeUnavailable, causeProtocolError}
 use Rattle.meaning.specs.Block.{sums, joinedBlock, formAndFit, permits}
 use Rattle.meaning.specs.Memory.{present, pending, body, store, setMarks, fourPresent}
-use Rattle.meaning.specs.Operation.{Op, capabilities, read, set, subscribe, unsubscribe}
+use Rattle.meaning.specs.Operation.{Op, capabilities, read, set, subscribe, unsubscribe, selectiveRead, selectiveSubscribe, selectiveUnsubscribe, deleteEntry}
 
 -- an answer: all names; a value or a cause to a read; a value or a cause to a set; no record
 pub data Answer : Type 0 where
@@ -78,7 +78,7 @@ subscribeMemory m n = cond (listed n) (setMarks m (place n) true (pending m (pla
 unfoldable pub unsubscribeMemory : List ℕ → ℕ → List ℕ
 unsubscribeMemory m n = cond (listed n) (setMarks m (place n) false false) m
 
--- ---- an operation, and one after another (RULES 10.12)
+-- ---- an operation, and one after another (RULES 10.12); what is not served leaves memory as it is (RULES 11.26 to 11.29)
 
 unfoldable pub step : List ℕ → Op → List ℕ
 step m capabilities = m
@@ -86,6 +86,10 @@ step m (read n) = m
 step m (set n v) = setMemory m n v
 step m (subscribe n) = subscribeMemory m n
 step m (unsubscribe n) = unsubscribeMemory m n
+step m (selectiveRead n v) = m
+step m (selectiveSubscribe n v) = m
+step m (selectiveUnsubscribe n v) = m
+step m (deleteEntry n v) = m
 
 unfoldable pub answer : List ℕ → Op → Answer
 answer m capabilities = names
@@ -93,6 +97,10 @@ answer m (read n) = readAnswer m n
 answer m (set n v) = setAnswer m n v
 answer m (subscribe n) = silent
 answer m (unsubscribe n) = silent
+answer m (selectiveRead n v) = readError n causeProtocolError
+answer m (selectiveSubscribe n v) = silent
+answer m (selectiveUnsubscribe n v) = silent
+answer m (deleteEntry n v) = updateError n causeProtocolError
 
 -- the memory after some operations, and their answers in list order
 unfoldable pub after : List ℕ → List Op → List ℕ

@@ -46,6 +46,18 @@ codeSubscribe = 4
 abbrev pub codeUnsubscribe : ℕ
 codeUnsubscribe = 5
 
+abbrev pub codeSelectiveRead : ℕ
+codeSelectiveRead = 6
+
+abbrev pub codeSelectiveSubscribe : ℕ
+codeSelectiveSubscribe = 7
+
+abbrev pub codeSelectiveUnsubscribe : ℕ
+codeSelectiveUnsubscribe = 8
+
+abbrev pub codeDeleteEntry : ℕ
+codeDeleteEntry = 9
+
 -- ---- causes
 
 -- the name is not in the table
@@ -60,7 +72,7 @@ causeInvalidValue = 0x02
 abbrev pub causeUnavailable : ℕ
 causeUnavailable = 0x03
 
--- the controller does not set this name
+-- the controller does not set this name, or the operation is not served
 abbrev pub causeProtocolError : ℕ
 causeProtocolError = 0x6F
 

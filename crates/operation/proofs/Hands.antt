@@ -2,14 +2,14 @@
 use Prim.Native.Nat.{ℕ, suc, _+_, _-_, _≤_, _<_}
 use native.Mathlib.Decide.{decLe}
 use native.Mathlib.Omega.{arith}
-use mathlib.Core.Path.{_≡_, refl}
+use mathlib.Core.Path.{_≡_, refl, sym, ap, _∙_}
 use mathlib.Core.Bool.{Bool, true, false, cond}
 use mathlib.Core.List.{List}
 use lib.ListN.{length, drop, getD, length-drop, drop-of-length-le}
 use lib.Seq.{drop-cons, getD-drop}
 use lib.Dec.{eqb}
 use Rattle.meaning.specs.Octets.{at16, part}
-use Rattle.meaning.specs.Operation.{capabilities, read, set, subscribe, unsubscribe, Shape, alone, named, valued, malformed, shape, Next, whole, shaped}
+use Rattle.meaning.specs.Operation.{capabilities, read, set, subscribe, unsubscribe, selectiveRead, selectiveSubscribe, selectiveUnsubscribe, deleteEntry, Shape, alone, named, valued, malformed, shape, Next, whole, shaped}
 use Rattle.meaning.specs.Operation as operation
 use Rattle.meaning.proofs.Lists.{length-part}
 use Rattle.operation.specs.declared.Handed.{Handed}
@@ -46,12 +46,16 @@ module _ (s : List ℕ) (octets : (i : ℕ) → getD s i 0 < 256) (at : ℕ) whe
     unfolding shaped
     named-hands f k = whole-hands 2 (f (at16 behind 0)) (λ _. k (at16 behind 0) name-small)
 
-    set-hands : Meets (shaped (valued set) behind)
-    unfolding shaped opOf opAt
-    set-hands =
+    valued-hands : (f : ℕ → List ℕ → operation.Op)
+        → ((n : ℕ) (v : List ℕ) → n < 65536 → part s (at + 5) (length v) ≡ v → at + 5 + length v ≤ length s → (opOf s (opAt at (f n v)) ≡ f n v) × Inside (length s) (opAt at (f n v)))
+        → Meets (shaped (valued f) behind)
+    unfolding shaped
+    valued-hands f k =
         let z = at16 behind 2 in
-        whole-hands (4 + z) (set (at16 behind 0) (part behind 4 z)) (λ l.
-        rw (length-part behind 4 z l) (rw (rest-part s at h 4 (at + 5) z (omega arith)) refl, (name-small, omega (arith, l, rest-length s at h))))
+        let v = part behind 4 z in
+        whole-hands (4 + z) (f (at16 behind 0) v) (λ l.
+        let e : length v ≡ z = length-part behind 4 z l in
+        k (at16 behind 0) v name-small (ap (part s (at + 5)) e ∙ sym (rest-part s at h 4 (at + 5) z (omega arith))) (omega (arith, e, l, rest-length s at h)))
 
     either-hands : (b : Bool) (x y : Shape) → Meets (shaped x behind) → Meets (shaped y behind) → Meets (shaped (cond b x y) behind)
     either-hands true x y p q = p
@@ -72,9 +76,13 @@ module _ (s : List ℕ) (octets : (i : ℕ) → getD s i 0 < 256) (at : ℕ) whe
     shape-hands c =
         either-hands (eqb c 1) _ _ alone-hands
         (either-hands (eqb c 2) _ _ (named-hands read (λ n b. (refl, b)))
-        (either-hands (eqb c 3) _ _ set-hands
+        (either-hands (eqb c 3) _ _ (valued-hands set (λ n v b p l. (ap (set n) p, (b, l))))
         (either-hands (eqb c 4) _ _ (named-hands subscribe (λ n b. (refl, b)))
-        (either-hands (eqb c 5) _ _ (named-hands unsubscribe (λ n b. (refl, b))) malformed-hands))))
+        (either-hands (eqb c 5) _ _ (named-hands unsubscribe (λ n b. (refl, b)))
+        (either-hands (eqb c 6) _ _ (valued-hands selectiveRead (λ n v b p l. (ap (selectiveRead n) p, (b, l))))
+        (either-hands (eqb c 7) _ _ (valued-hands selectiveSubscribe (λ n v b p l. (ap (selectiveSubscribe n) p, (b, l))))
+        (either-hands (eqb c 8) _ _ (valued-hands selectiveUnsubscribe (λ n v b p l. (ap (selectiveUnsubscribe n) p, (b, l))))
+        (either-hands (eqb c 9) _ _ (valued-hands deleteEntry (λ n v b p l. (ap (deleteEntry n) p, (b, l)))) malformed-hands))))))))
 
   hands : Dec (length s ≤ at) → HandsOut s at (handedAt s at)
   unfolding handedAt handedFrom handing first

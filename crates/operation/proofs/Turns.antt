@@ -11,7 +11,7 @@ use Rattle.meaning.specs.Operation as operation
 use Rattle.meaning.proofs.Encode.{firstOf, parse-step, parse-nil}
 use Rattle.meaning.proofs.Breaks.{broken-got, broken-bad}
 use Rattle.operation.specs.declared.Op.{Op}
-use Rattle.operation.specs.declared.Op.the-variants.{Capabilities, Read, Set, Subscribe, Unsubscribe}
+use Rattle.operation.specs.declared.Op.the-variants.{Capabilities, Read, Set, Subscribe, Unsubscribe, SelectiveRead, SelectiveSubscribe, SelectiveUnsubscribe, DeleteEntry}
 use Rattle.operation.specs.declared.Handed.{Handed}
 use Rattle.operation.specs.declared.Handed.the-variants.{Operation, Malformed, End}
 use Rattle.operation.specs.declared.Wholeness.{Wholeness}
@@ -40,7 +40,7 @@ Reached n at (Operation o next) = (at < next) × (next ≤ n) × Inside n o
 Reached n at (Malformed p) = p ≡ inMessage at
 Reached n at End = Unit {0}
 
--- r is what the list s hands out at a place, wherever a set's value lies
+-- r is what the list s hands out at a place, wherever a value lies
 abbrev pub HandsOut : List ℕ → ℕ → Handed → Type 0
 HandsOut s at r = (handing s r ≡ first (drop at s)) × Reached (length s) at r
 
@@ -163,6 +163,10 @@ inside-name n (Read name) h = h
 inside-name n (Set name from size) h = h .0
 inside-name n (Subscribe name) h = h
 inside-name n (Unsubscribe name) h = h
+inside-name n (SelectiveRead name from size) h = h .0
+inside-name n (SelectiveSubscribe name from size) h = h .0
+inside-name n (SelectiveUnsubscribe name from size) h = h .0
+inside-name n (DeleteEntry name from size) h = h .0
 
 pub inside-value : (n : ℕ) (o : Op) → Inside n o → fromOf o + sizeOf o ≤ n
 unfolding fromOf sizeOf
@@ -171,6 +175,10 @@ inside-value n (Read name) h = omega arith
 inside-value n (Set name from size) h = h .1
 inside-value n (Subscribe name) h = omega arith
 inside-value n (Unsubscribe name) h = omega arith
+inside-value n (SelectiveRead name from size) h = omega arith
+inside-value n (SelectiveSubscribe name from size) h = omega arith
+inside-value n (SelectiveUnsubscribe name from size) h = omega arith
+inside-value n (DeleteEntry name from size) h = omega arith
 
 pub inside-within : (n k : ℕ) (o : Op) → n ≤ k → Inside n o → Inside k o
 inside-within n k Capabilities l h = h
@@ -178,3 +186,7 @@ inside-within n k (Read name) l h = h
 inside-within n k (Set name from size) l h = (h .0, omega (arith, h .1, l))
 inside-within n k (Subscribe name) l h = h
 inside-within n k (Unsubscribe name) l h = h
+inside-within n k (SelectiveRead name from size) l h = (h .0, omega (arith, h .1, l))
+inside-within n k (SelectiveSubscribe name from size) l h = (h .0, omega (arith, h .1, l))
+inside-within n k (SelectiveUnsubscribe name from size) l h = (h .0, omega (arith, h .1, l))
+inside-within n k (DeleteEntry name from size) l h = (h .0, omega (arith, h .1, l))

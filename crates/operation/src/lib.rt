@@ -1,15 +1,22 @@
 // The operations of a command, handed out from its list of octets by a reader (RULES 10.10), and whether a list is whole.
 // What is handed out is what `meaning` finds at the place.
+ghost use Prim.Native.Nat.{_+_, _≤_};
 ghost use mathlib.Core.Path.{_≡_};
-ghost use Rattle.operation.specs.Handing.{nameOf, fromOf, sizeOf, handedAt, wholeness};
+ghost use lib.ListN.{length};
+ghost use Rattle.meaning.specs.Octets.{octet};
+ghost use Rattle.operation.specs.Handing.{nameOf, fromOf, sizeOf, NoValue, handedAt, wholeness};
 
-// An operation. The value of a set lies in the list: where it starts, and its length.
+// An operation. A value lies in the list: where it starts, and its length.
 pub enum Op {
     Capabilities,
     Read(usize),
     Set(usize, usize, usize),
     Subscribe(usize),
     Unsubscribe(usize),
+    SelectiveRead(usize, usize, usize),
+    SelectiveSubscribe(usize, usize, usize),
+    SelectiveUnsubscribe(usize, usize, usize),
+    DeleteEntry(usize, usize, usize),
 }
 
 // What a list hands out at a place: an operation and the place after it; the position in the message of one that is
@@ -20,6 +27,34 @@ pub enum Handed {
     End,
 }
 
+// The operation at a place whose code, if it is one at all, has a value: a set, or one of the four that are laid out as a set.
+// The code is asked last: octets that are too few are malformed in any case.
+fn valued_at(list: &[u8], at: usize) -> Handed
+    requires { ⌜ (at + 3 ≤ length (now list)) × (NoValue (octet (now list) at) → ⊥) ⌝ }
+    ensures { λ r. ⌜ r ≡ handedAt (now (list .entry)) at ⌝ }
+{
+    let left = list.len() - at;
+    let position = wire::COMMAND_HEAD + at;
+    if left < 5 {
+        return Handed::Malformed(position);
+    }
+    let size = octets::get16(list, at + 3);
+    if left < 5 + size {
+        return Handed::Malformed(position);
+    }
+    let name = octets::get16(list, at + 1);
+    let from = at + 5;
+    let op = match list[at] {
+        wire::CODE_SET => Op::Set(name, from, size),
+        wire::CODE_SELECTIVE_READ => Op::SelectiveRead(name, from, size),
+        wire::CODE_SELECTIVE_SUBSCRIBE => Op::SelectiveSubscribe(name, from, size),
+        wire::CODE_SELECTIVE_UNSUBSCRIBE => Op::SelectiveUnsubscribe(name, from, size),
+        wire::CODE_DELETE_ENTRY => Op::DeleteEntry(name, from, size),
+        _ => return Handed::Malformed(position),
+    };
+    Handed::Operation(op, from + size)
+}
+
 // The operation at a place of a list; the end for every place past its last octet.
 pub fn operation_at(list: &[u8], at: usize) -> Handed
     ensures { λ r. ⌜ r ≡ handedAt (now (list .entry)) at ⌝ }
@@ -28,32 +63,20 @@ pub fn operation_at(list: &[u8], at: usize) -> Handed
         return Handed::End;
     }
     let left = list.len() - at;
-    let position = wire::COMMAND_HEAD + at;
     let code = list[at];
     if code == wire::CODE_CAPABILITIES {
         let op = Op::Capabilities;
         return Handed::Operation(op, at + 1);
     }
     if left < 3 {
-        return Handed::Malformed(position);
+        return Handed::Malformed(wire::COMMAND_HEAD + at);
     }
     let name = octets::get16(list, at + 1);
-    if code == wire::CODE_SET {
-        if left < 5 {
-            return Handed::Malformed(position);
-        }
-        let size = octets::get16(list, at + 3);
-        if left < 5 + size {
-            return Handed::Malformed(position);
-        }
-        let op = Op::Set(name, at + 5, size);
-        return Handed::Operation(op, at + 5 + size);
-    }
     let op = match code {
         wire::CODE_READ => Op::Read(name),
         wire::CODE_SUBSCRIBE => Op::Subscribe(name),
         wire::CODE_UNSUBSCRIBE => Op::Unsubscribe(name),
-        _ => return Handed::Malformed(position),
+        _ => return valued_at(list, at),
     };
     Handed::Operation(op, at + 3)
 }
@@ -123,6 +146,10 @@ pub fn name_of(op: Op) -> usize
         Op::Set(name, _, _) => name,
         Op::Subscribe(name) => name,
         Op::Unsubscribe(name) => name,
+        Op::SelectiveRead(name, _, _) => name,
+        Op::SelectiveSubscribe(name, _, _) => name,
+        Op::SelectiveUnsubscribe(name, _, _) => name,
+        Op::DeleteEntry(name, _, _) => name,
     }
 }
 
@@ -136,6 +163,10 @@ pub fn from_of(op: Op) -> usize
         Op::Set(_, from, _) => from,
         Op::Subscribe(_) => 0,
         Op::Unsubscribe(_) => 0,
+        Op::SelectiveRead(_, _, _) => 0,
+        Op::SelectiveSubscribe(_, _, _) => 0,
+        Op::SelectiveUnsubscribe(_, _, _) => 0,
+        Op::DeleteEntry(_, _, _) => 0,
     }
 }
 
@@ -149,5 +180,9 @@ pub fn size_of(op: Op) -> usize
         Op::Set(_, _, size) => size,
         Op::Subscribe(_) => 0,
         Op::Unsubscribe(_) => 0,
+        Op::SelectiveRead(_, _, _) => 0,
+        Op::SelectiveSubscribe(_, _, _) => 0,
+        Op::SelectiveUnsubscribe(_, _, _) => 0,
+        Op::DeleteEntry(_, _, _) => 0,
     }
 }

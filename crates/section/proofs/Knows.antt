@@ -13,11 +13,11 @@ use Rattle.meaning.specs.Octets.{part}
 use Rattle.meaning.specs.Table.{commit}
 use Rattle.meaning.specs.Memory.{body, sound}
 use Rattle.meaning.specs.Operation as operation
-use Rattle.meaning.specs.Operation.{capabilities, read, set, subscribe, unsubscribe}
+use Rattle.meaning.specs.Operation.{capabilities, read, set, subscribe, unsubscribe, selectiveRead, selectiveSubscribe, selectiveUnsubscribe, deleteEntry}
 use Rattle.meaning.specs.Step.{step}
 use Rattle.meaning.proofs.Running.{step-running}
 use Rattle.operation.specs.declared.Op.{Op}
-use Rattle.operation.specs.declared.Op.the-variants.{Capabilities, Read, Set, Subscribe, Unsubscribe}
+use Rattle.operation.specs.declared.Op.the-variants.{Capabilities, Read, Set, Subscribe, Unsubscribe, SelectiveRead, SelectiveSubscribe, SelectiveUnsubscribe, DeleteEntry}
 use Rattle.operation.specs.Handing.{opOf}
 use Rattle.operation.proofs.Op as op
 use Rattle.command.specs.declared.Answer.{Answer}
@@ -40,6 +40,10 @@ setName (read n) = 0
 setName (set n v) = n
 setName (subscribe n) = 0
 setName (unsubscribe n) = 0
+setName (selectiveRead n v) = 0
+setName (selectiveSubscribe n v) = 0
+setName (selectiveUnsubscribe n v) = 0
+setName (deleteEntry n v) = 0
 
 -- no other operation than a set of 8001 changes the running block
 knows-step : (m : List ℕ) (o : operation.Op) (k : RunningSums) → sound m ≡ true → setName o ≢ 0x8001 → Knows m k → Knows (step m o) k
@@ -57,6 +61,10 @@ kept-knows m s (Set n f z) k d h = go (eqb n 0x8001) refl
     go false e = knows-step m (set n (part s f z)) k d (eqb-false n 0x8001 e) h
 kept-knows m s (Subscribe n) k d h = knows-step m (subscribe n) k d (λ e. omega (arith, e)) h
 kept-knows m s (Unsubscribe n) k d h = knows-step m (unsubscribe n) k d (λ e. omega (arith, e)) h
+kept-knows m s (SelectiveRead n f z) k d h = knows-step m (selectiveRead n (part s f z)) k d (λ e. omega (arith, e)) h
+kept-knows m s (SelectiveSubscribe n f z) k d h = knows-step m (selectiveSubscribe n (part s f z)) k d (λ e. omega (arith, e)) h
+kept-knows m s (SelectiveUnsubscribe n f z) k d h = knows-step m (selectiveUnsubscribe n (part s f z)) k d (λ e. omega (arith, e)) h
+kept-knows m s (DeleteEntry n f z) k d h = knows-step m (deleteEntry n (part s f z)) k d (λ e. omega (arith, e)) h
 
 pub learnt-knows : (m : List ℕ) (a : Answer) (k : RunningSums) → Knows m k → Knows m (learntFrom m a k)
 unfolding learntFrom
@@ -73,13 +81,17 @@ learnt-knows m Silent k h = h
 
 -- ---- what is kept and learnt, by the code's branches
 
-pub kept-other : (o : Op) (k : RunningSums) → OneOf (0 ∷ 1 ∷ 3 ∷ 4 ∷ []) (tagOf op.the-type o) → k ≡ keptAfter o k
+pub kept-other : (o : Op) (k : RunningSums) → OneOf (0 ∷ 1 ∷ 3 ∷ 4 ∷ 5 ∷ 6 ∷ 7 ∷ 8 ∷ []) (tagOf op.the-type o) → k ≡ keptAfter o k
 unfolding keptAfter
 kept-other Capabilities k t = refl
 kept-other (Read n) k t = refl
-kept-other (Set n f z) k t = absurd (miss (0 ∷ 1 ∷ 3 ∷ 4 ∷ []) 2 tt t)
+kept-other (Set n f z) k t = absurd (miss (0 ∷ 1 ∷ 3 ∷ 4 ∷ 5 ∷ 6 ∷ 7 ∷ 8 ∷ []) 2 tt t)
 kept-other (Subscribe n) k t = refl
 kept-other (Unsubscribe n) k t = refl
+kept-other (SelectiveRead n f z) k t = refl
+kept-other (SelectiveSubscribe n f z) k t = refl
+kept-other (SelectiveUnsubscribe n f z) k t = refl
+kept-other (DeleteEntry n f z) k t = refl
 
 pub learnt-other : (m : List ℕ) (a : Answer) (k : RunningSums) → OneOf (0 ∷ 2 ∷ 3 ∷ 4 ∷ 5 ∷ []) (tagOf answer.the-type a) → k ≡ learntFrom m a k
 unfolding learntFrom

@@ -8,7 +8,7 @@ use Rattle.meaning.specs.Table.{commit}
 use Rattle.meaning.specs.Block.{sumsOf}
 use Rattle.meaning.specs.Memory.{body}
 use Rattle.operation.specs.declared.Op.{Op}
-use Rattle.operation.specs.declared.Op.the-variants.{Capabilities, Read, Set, Subscribe, Unsubscribe}
+use Rattle.operation.specs.declared.Op.the-variants.{Capabilities, Read, Set, Subscribe, Unsubscribe, SelectiveRead, SelectiveSubscribe, SelectiveUnsubscribe, DeleteEntry}
 use Rattle.schedule.specs.declared.Sums.{Sums}
 use Rattle.command.specs.declared.Answer.{Answer}
 use Rattle.command.specs.declared.Answer.the-variants.{Names, Value, ReadError, Update, UpdateError, Silent}
@@ -30,6 +30,10 @@ keptAfter (Read n) known = known
 keptAfter (Set n from size) known = cond (eqb n 0x8001) Unknown known
 keptAfter (Subscribe n) known = known
 keptAfter (Unsubscribe n) known = known
+keptAfter (SelectiveRead n from size) known = known
+keptAfter (SelectiveSubscribe n from size) known = known
+keptAfter (SelectiveUnsubscribe n from size) known = known
+keptAfter (DeleteEntry n from size) known = known
 
 -- what is known where an operation has this answer: a value read at the place of 8001 finds the sums
 unfoldable pub learntFrom : List ℕ → Answer → RunningSums → RunningSums

@@ -33,6 +33,14 @@ pub const CODE_SUBSCRIBE: u8 = 4;
 
 pub const CODE_UNSUBSCRIBE: u8 = 5;
 
+pub const CODE_SELECTIVE_READ: u8 = 6;
+
+pub const CODE_SELECTIVE_SUBSCRIBE: u8 = 7;
+
+pub const CODE_SELECTIVE_UNSUBSCRIBE: u8 = 8;
+
+pub const CODE_DELETE_ENTRY: u8 = 9;
+
 // ---- causes
 
 pub const CAUSE_NOT_SUPPORTED: u8 = 0x01;

@@ -13,7 +13,9 @@ pub mod files;
 pub mod process;
 
 pub use bench::{Bench, AMPLE, FILL};
-pub use broken::position_by_clauses;
+pub use broken::{operations_by_clauses, position_by_clauses};
 pub use chance::Chance;
-pub use messages::{command, hex, list, read, schedule, set, sets, subscribe, sums, unsubscribe};
+pub use messages::{command, delete_entry, hex, list, read, schedule, selective_read};
+pub use messages::{selective_subscribe, selective_unsubscribe, set, sets, subscribe, sums};
+pub use messages::{unsubscribe, valued};
 pub use reply::Reply;

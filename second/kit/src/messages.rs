@@ -20,10 +20,7 @@ pub fn read(name: u16) -> Vec<u8> {
 
 /// The operation set.
 pub fn set(name: u16, value: &[u8]) -> Vec<u8> {
-    let mut operation = named(3, name);
-    operation.extend((value.len() as u16).to_be_bytes());
-    operation.extend(value);
-    operation
+    valued(3, name, value)
 }
 
 /// The operation subscribe.
@@ -34,6 +31,34 @@ pub fn subscribe(name: u16) -> Vec<u8> {
 /// The operation unsubscribe.
 pub fn unsubscribe(name: u16) -> Vec<u8> {
     named(5, name)
+}
+
+/// The operation selective read.
+pub fn selective_read(name: u16, value: &[u8]) -> Vec<u8> {
+    valued(6, name, value)
+}
+
+/// The operation selective subscribe.
+pub fn selective_subscribe(name: u16, value: &[u8]) -> Vec<u8> {
+    valued(7, name, value)
+}
+
+/// The operation selective unsubscribe.
+pub fn selective_unsubscribe(name: u16, value: &[u8]) -> Vec<u8> {
+    valued(8, name, value)
+}
+
+/// The operation delete entry.
+pub fn delete_entry(name: u16, value: &[u8]) -> Vec<u8> {
+    valued(9, name, value)
+}
+
+/// Any code with the layout of a set.
+pub fn valued(code: u8, name: u16, value: &[u8]) -> Vec<u8> {
+    let mut operation = named(code, name);
+    operation.extend((value.len() as u16).to_be_bytes());
+    operation.extend(value);
+    operation
 }
 
 fn named(code: u8, name: u16) -> Vec<u8> {

@@ -43,6 +43,17 @@ impl<'m> Draft<'m> {
                 self.subscribed &= !bit(name);
                 Outcome::Silent
             }
+            // What is not served fails for every name, the unlisted ones too (RULES 11.26, 11.27).
+            Operation::SelectiveRead(name) => {
+                Outcome::Record(Record::of_read(name, Err(Cause::Unspecified)))
+            }
+            Operation::DeleteEntry(name) => {
+                Outcome::Record(Record::of_set(name, Err(Cause::Unspecified)))
+            }
+            // There is no record to fail with (RULES 11.28).
+            Operation::SelectiveSubscribe(_) | Operation::SelectiveUnsubscribe(_) => {
+                Outcome::Silent
+            }
         }
     }
 

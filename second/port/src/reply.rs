@@ -8,9 +8,9 @@ pub const COMPLETE: u8 = 0x02;
 pub const NOTIFY: u8 = 0x03;
 /// The element that lists names.
 pub const CAPABILITY: u8 = 0x70;
-/// The element of reads.
+/// The element of reads, selective ones included (RULES 12.16).
 pub const STATUS: u8 = 0x71;
-/// The element of sets.
+/// The element of sets and of deletes of entries (RULES 12.16).
 pub const UPDATE_RESULT: u8 = 0x72;
 
 /// Longest reply.
@@ -44,7 +44,7 @@ pub enum Cause {
     InvalidValue,
     /// 03: there is no value (RULES 11.4, 14.5).
     Unavailable,
-    /// 6F: not the controller's (RULES 11.7).
+    /// 6F: not the controller's (RULES 11.7), or not served (RULES 11.26, 11.27).
     Unspecified,
 }
 
@@ -95,7 +95,7 @@ pub struct Record<'a> {
 }
 
 impl<'a> Record<'a> {
-    /// The record of a read.
+    /// The record of a read, a selective one too.
     pub fn of_read(name: u16, value: Result<&'a [u8], Cause>) -> Record<'a> {
         match value {
             Ok(body) => Record::new(Kind::Value, name, body),
@@ -103,7 +103,7 @@ impl<'a> Record<'a> {
         }
     }
 
-    /// The record of a set.
+    /// The record of a set, or of a delete of an entry.
     pub fn of_set(name: u16, value: Result<&'a [u8], Cause>) -> Record<'a> {
         match value {
             Ok(body) if body.len() > LONGEST_SHORT => Record::new(Kind::LongUpdate, name, body),

@@ -74,6 +74,18 @@ enum-known-op-4 c = search needs
 unsubscribe-requires : tie.Need-unsubscribe-requires
 unsubscribe-requires c κs = long-of _ (c .before .before .before .before .before .before .pre .0)
 
+enum-told-2 : tie.Need-enum-told-2
+enum-told-2 c = search needs
+
+enum-told-3 : tie.Need-enum-told-3
+enum-told-3 c = search needs
+
+enum-told-4 : tie.Need-enum-told-4
+enum-told-4 c = search needs
+
+enum-told-5 : tie.Need-enum-told-5
+enum-told-5 c = search needs
+
 returns : tie.Need-returns
 unfolding opOf step answer told
 returns c = rw (c .enum-told .given .1) (refl, refl)
@@ -125,6 +137,22 @@ returns-6 : tie.Need-returns-6
 unfolding opOf step answer told
 returns-6 c = rw (c .before .before .before .before .before .op4 .given .1) (c .before .before .unsubscribe .ensures, refl)
 
+returns-7 : tie.Need-returns-7
+unfolding opOf step answer told
+returns-7 c = rw (c .enum-told2 .given .1) (refl, refl)
+
+returns-8 : tie.Need-returns-8
+unfolding opOf step answer told
+returns-8 c = rw (c .enum-told3 .given .1) (refl, refl)
+
+returns-9 : tie.Need-returns-9
+unfolding opOf step answer told
+returns-9 c = rw (c .enum-told4 .given .1) (refl, refl)
+
+returns-10 : tie.Need-returns-10
+unfolding opOf step answer told
+returns-10 c = rw (c .enum-told5 .given .1) (refl, refl)
+
 pub carry-out-spec : {M : Type 1} → statement M
 carry-out-spec =
     tie.close
@@ -142,6 +170,10 @@ carry-out-spec =
     subscribe-requires
     enum-known-op-4
     unsubscribe-requires
+    enum-told-2
+    enum-told-3
+    enum-told-4
+    enum-told-5
     returns
     same-length
     returns-2
@@ -152,4 +184,8 @@ carry-out-spec =
     same-length-4
     returns-5
     same-length-5
-    returns-6)
+    returns-6
+    returns-7
+    returns-8
+    returns-9
+    returns-10)

@@ -19,6 +19,18 @@ enum-told-3 c = search needs
 enum-told-4 : tie.Need-enum-told-4
 enum-told-4 c = search needs
 
+enum-told-5 : tie.Need-enum-told-5
+enum-told-5 c = search needs
+
+enum-told-6 : tie.Need-enum-told-6
+enum-told-6 c = search needs
+
+enum-told-7 : tie.Need-enum-told-7
+enum-told-7 c = search needs
+
+enum-told-8 : tie.Need-enum-told-8
+enum-told-8 c = search needs
+
 returns : tie.Need-returns
 unfolding sizeOf
 returns c = search needs
@@ -39,6 +51,22 @@ returns-5 : tie.Need-returns-5
 unfolding sizeOf
 returns-5 c = search needs
 
+returns-6 : tie.Need-returns-6
+unfolding sizeOf
+returns-6 c = search needs
+
+returns-7 : tie.Need-returns-7
+unfolding sizeOf
+returns-7 c = search needs
+
+returns-8 : tie.Need-returns-8
+unfolding sizeOf
+returns-8 c = search needs
+
+returns-9 : tie.Need-returns-9
+unfolding sizeOf
+returns-9 c = search needs
+
 pub size-of-spec : {M : Type 1} → statement M
 size-of-spec =
     tie.close
@@ -48,8 +76,16 @@ size-of-spec =
     enum-known-op
     enum-told-3
     enum-told-4
+    enum-told-5
+    enum-told-6
+    enum-told-7
+    enum-told-8
     returns
     returns-2
     returns-3
     returns-4
-    returns-5)
+    returns-5
+    returns-6
+    returns-7
+    returns-8
+    returns-9)

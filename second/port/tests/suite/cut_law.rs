@@ -2,7 +2,7 @@
 //! memory ends up the same to the octet, and the records are those of the partial replies joined.
 
 use crate::soundness::full;
-use kit::{command, list, read, schedule, set, sets, subscribe, unsubscribe};
+use kit::{command, list, read, schedule, set, sets, subscribe, unsubscribe, valued};
 use kit::{Bench, Chance, Reply};
 
 const NAMES: [u16; 22] = [
@@ -10,9 +10,12 @@ const NAMES: [u16; 22] = [
     0x0061, 0x00A0, 0x00A1, 0x00A2, 0x00A3, 0x00A4, 0x8001, 0x0002, 0x8002, 0x0142,
 ];
 
+/// The codes of what is not served.
+const NOT_SERVED: [u8; 4] = [6, 7, 8, 9];
+
 fn random_operation(chance: &mut Chance) -> Vec<u8> {
     let name = NAMES[chance.below(NAMES.len())];
-    match chance.below(12) {
+    match chance.below(16) {
         0 => vec![1],
         1..=3 => read(name),
         4 => subscribe(name),
@@ -28,6 +31,11 @@ fn random_operation(chance: &mut Chance) -> Vec<u8> {
             set(name, &chance.octets(length))
         }
         10 => set(0x0042, &vec![chance.octet(); 1 + chance.below(255)]),
+        11..=14 => {
+            let code = NOT_SERVED[chance.below(NOT_SERVED.len())];
+            let length = [0, 1, chance.below(6), chance.below(300)][chance.below(4)];
+            valued(code, name, &chance.octets(length))
+        }
         _ => set(0x0061, &vec![chance.octet(); 1 + chance.below(40)]),
     }
 }
@@ -74,6 +82,7 @@ fn random_commands_in_random_cuts() {
     let mut chance = Chance::new(3);
     let starts = starts();
     let (mut carried_out, mut commits, mut long) = (0, 0, 0);
+    let (mut selective, mut deletes) = (0, 0);
     for _ in 0..12_000 {
         let operations = random_operations(&mut chance);
         let start = &starts[chance.below(starts.len())];
@@ -99,6 +108,9 @@ fn random_commands_in_random_cuts() {
             .filter(|(name, _)| *name == 0x8001)
             .count();
         long += whole_reply.long_updates.len();
+        let fail = |error: &&(u16, u8)| error.1 == 0x6F;
+        selective += whole_reply.read_errors.iter().filter(fail).count();
+        deletes += whole_reply.update_errors.iter().filter(fail).count();
     }
     assert!(
         carried_out > 8_000,
@@ -106,6 +118,8 @@ fn random_commands_in_random_cuts() {
     );
     assert!(commits > 1_000, "{commits} commits succeeded");
     assert!(long > 1_000, "{long} updates were long");
+    assert!(selective > 1_000, "{selective} reads were selective");
+    assert!(deletes > 1_000, "{deletes} entries were to be deleted");
 }
 
 #[test]
@@ -116,6 +130,8 @@ fn every_single_cut_of_one_long_command() {
     for values in [&first, &second] {
         operations.extend(values.iter().map(|(name, value)| set(*name, value)));
         operations.extend([read(0x0006), read(0x8001), unsubscribe(0x0001), vec![1]]);
+        operations.extend(NOT_SERVED.map(|code| valued(code, 0x00A4, &[0, 1])));
+        operations.extend(NOT_SERVED.map(|code| valued(code, 0xFFFF, &[])));
     }
     for start in starts() {
         let mut whole = start.clone();

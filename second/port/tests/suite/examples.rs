@@ -1,6 +1,7 @@
 //! The ten examples from the bench, each from fresh memory, and those that a program runs.
 
-use kit::{command, hex, list, read, schedule, set, sets, Bench, Reply};
+use kit::{command, delete_entry, hex, list, read, schedule, selective_read, set, sets};
+use kit::{Bench, Reply};
 use port::{DelayUnits, Nanoseconds};
 
 /// The names of the table, in its order.
@@ -92,8 +93,9 @@ fn examples_8_and_9_delays() {
 
 #[test]
 fn example_10_malformed_operations() {
-    assert_eq!(reply_to("01 0001 06").0, 6);
-    assert_eq!(reply_to("01 0003 06 0003").0, 6);
+    assert_eq!(reply_to("01 0001 0A").0, 6);
+    assert_eq!(reply_to("01 0003 0A 0003").0, 6);
+    assert_eq!(reply_to("01 0006 03 0003 0002 01").0, 6);
     assert_eq!(reply_to("01 0005 03 0003 0001").0, 6);
     assert_eq!(reply_to("01 000E 03 0004 000A 000000000000000000").0, 6);
 }
@@ -123,6 +125,10 @@ fn counts_of_255_and_256() {
         (set(0x0003, &[1]), 4),
         (set(0x0002, &[1]), 3),
         (set(0x0003, &[2]), 3),
+        (selective_read(0x0003, &[]), 3),
+        (selective_read(0x0002, &[1, 2]), 3),
+        (delete_entry(0x0006, &[]), 3),
+        (delete_entry(0xFFFF, &[1, 2]), 3),
     ] {
         let reply = Bench::fresh().done(&operation.repeat(255));
         assert_eq!(reply.len(), 1 + 3 + 2 + 255 * record);

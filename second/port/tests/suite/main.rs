@@ -4,6 +4,7 @@ mod captures;
 mod cut_law;
 mod examples;
 mod no_panic;
+mod not_served;
 mod numbers;
 mod order;
 mod positions;

@@ -1,7 +1,7 @@
 //! No call panics, and no refusal changes a lent octet, on random messages and memories.
 
 use crate::soundness::full;
-use kit::{command, schedule, sets, Bench, Chance};
+use kit::{command, schedule, sets, valued, Bench, Chance};
 
 /// Rounds of each test below; together they pass a hundred thousand.
 const ROUNDS: usize = 40_000;
@@ -14,7 +14,7 @@ fn random_message(chance: &mut Chance) -> Vec<u8> {
     };
     let mut message = chance.octets(length);
     if chance.below(4) > 0 {
-        let front = [1, 0, chance.below(40) as u8, 1 + chance.below(6) as u8, 0];
+        let front = [1, 0, chance.below(40) as u8, chance.below(12) as u8, 0];
         let kept = length.min(front.len());
         message[..kept].copy_from_slice(&front[..kept]);
     }
@@ -51,7 +51,11 @@ fn random_messages_on_sound_memory() {
 fn damaged_commands_on_damaged_memory() {
     let mut chance = Chance::new(12);
     let starts = [Bench::fresh(), full()];
-    let good = command(&sets(&schedule(9, 10, [1, 1_000])));
+    let not_served: Vec<u8> = [6, 7, 8, 9]
+        .iter()
+        .flat_map(|code| valued(*code, 0x0006, &[*code; 9]))
+        .collect();
+    let good = command(&[sets(&schedule(9, 10, [1, 1_000])), not_served].concat());
     for _ in 0..ROUNDS {
         let mut bench = starts[chance.below(2)].clone();
         let mut message = good.clone();

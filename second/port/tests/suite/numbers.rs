@@ -1,7 +1,7 @@
 //! Each number is reached by a test of its own. The bench checks on every call that a refusal
 //! changes neither memory nor room.
 
-use kit::{command, hex, list, read, set, subscribe, Bench};
+use kit::{command, hex, list, read, set, subscribe, valued, Bench};
 
 /// A port with one reported change: name 00A4 subscribed and pending.
 fn with_pending() -> Bench {
@@ -92,11 +92,15 @@ fn number_5_wrong_length() {
 
 #[test]
 fn number_6_malformed_operation() {
-    for code in (0..=255).filter(|code| !(1..=5).contains(code)) {
-        assert_eq!(Bench::fresh().send(&command(&[code, 0, 3])).0, 6);
+    // 00 and those from 0A on, alone and laid out as each operation is.
+    for code in (0..=255).filter(|code| !(1..=9).contains(code)) {
+        for operation in [vec![code], vec![code, 0, 3], valued(code, 0x0003, &[1])] {
+            assert_eq!(Bench::fresh().send(&command(&operation)).0, 6, "{code:02x}");
+        }
     }
-    let whole = set(0x0003, &[1]);
-    for operation in [read(0x0003), subscribe(0x0001), hex("05 0001"), whole] {
+    let named = [read(0x0003), subscribe(0x0001), hex("05 0001")];
+    let laid_out_alike = [3, 6, 7, 8, 9].map(|code| valued(code, 0x0003, &[1]));
+    for operation in named.into_iter().chain(laid_out_alike) {
         for cut in 1..operation.len() {
             let mut message = command(&operation[..cut]);
             assert_eq!(Bench::fresh().send(&message).0, 6);
@@ -110,7 +114,7 @@ fn number_6_malformed_operation() {
 #[test]
 fn number_6_leaves_earlier_operations_undone() {
     let mut bench = Bench::fresh();
-    let operations = [set(0x0003, &[1]), subscribe(0x0001), vec![6]].concat();
+    let operations = [set(0x0003, &[1]), subscribe(0x0001), vec![0x0A]].concat();
     assert_eq!(bench.send(&command(&operations)).0, 6);
     assert_eq!(
         bench.done(&read(0x0003)),

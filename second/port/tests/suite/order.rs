@@ -1,6 +1,6 @@
 //! Where two numbers apply, the earlier in the order of its call is returned.
 
-use kit::{command, hex, read, set, subscribe, Bench};
+use kit::{command, hex, read, set, subscribe, valued, Bench};
 
 fn unsound() -> Bench {
     let mut bench = Bench::fresh();
@@ -21,7 +21,7 @@ fn waiting_with_pending() -> Bench {
 fn memory_comes_before_all_else_of_a_message() {
     let too_long = vec![9; 2_049];
     let many = command(&read(0x0003).repeat(256));
-    let others: [&[u8]; 7] = [&[], &too_long, &[9], &[1], &[1, 0, 1, 9], &many, &[4]];
+    let others: [&[u8]; 7] = [&[], &too_long, &[9], &[1], &[1, 0, 1, 10], &many, &[4]];
     for message in others {
         assert_eq!(unsound().send_into(message, 0).0, 1);
         assert_ne!(Bench::fresh().send_into(message, 0).0, 1);
@@ -34,7 +34,7 @@ fn length_of_the_message_comes_before_its_contents() {
     assert_eq!(Bench::fresh().send(&message).0, 3);
     message[..3].copy_from_slice(&[1, 0, 0]);
     assert_eq!(Bench::fresh().send(&message).0, 3);
-    message[..4].copy_from_slice(&[1, 0, 1, 9]);
+    message[..4].copy_from_slice(&[1, 0, 1, 10]);
     assert_eq!(Bench::fresh().send(&message).0, 3);
     message[0] = 4;
     assert_eq!(Bench::fresh().send_into(&message, 0).0, 3);
@@ -44,23 +44,30 @@ fn length_of_the_message_comes_before_its_contents() {
 fn type_comes_before_l_and_operations() {
     assert_eq!(Bench::fresh().send(&[0]).0, 4);
     assert_eq!(Bench::fresh().send(&hex("02 0000")).0, 4);
-    assert_eq!(Bench::fresh().send(&hex("05 0001 09")).0, 4);
+    assert_eq!(Bench::fresh().send(&hex("05 0001 0A")).0, 4);
 }
 
 #[test]
 fn l_comes_before_operations() {
-    assert_eq!(Bench::fresh().send(&hex("01 0002 09")).0, 5);
-    assert_eq!(Bench::fresh().send(&hex("01 0000 09")).0, 5);
+    assert_eq!(Bench::fresh().send(&hex("01 0002 0A")).0, 5);
+    assert_eq!(Bench::fresh().send(&hex("01 0000 0A")).0, 5);
     assert_eq!(Bench::fresh().send_into(&hex("01 0004 02 0003"), 0).0, 5);
 }
 
 #[test]
 fn malformed_operations_come_before_the_reply() {
-    let many = [read(0x0003).repeat(256), vec![9]].concat();
+    let many = [read(0x0003).repeat(256), vec![10]].concat();
     assert_eq!(Bench::fresh().send(&command(&many)).0, 6);
     let long = [set(0x0042, &[1; 255]), read(0x0042).repeat(20), vec![2, 0]].concat();
     assert_eq!(Bench::fresh().send(&command(&long)).0, 6);
-    assert_eq!(Bench::fresh().send_into(&hex("01 0001 09"), 0).0, 6);
+    assert_eq!(Bench::fresh().send_into(&hex("01 0001 0A"), 0).0, 6);
+    // What is not served is cut short like any other operation, and counted only if it is not.
+    for code in [6, 7, 8, 9] {
+        let many = [valued(code, 0x0003, &[]).repeat(256), vec![code, 0]].concat();
+        assert_eq!(Bench::fresh().send(&command(&many)).0, 6);
+        let cut = command(&[code, 0, 3, 0, 1]);
+        assert_eq!(Bench::fresh().send_into(&cut, 0).0, 6);
+    }
 }
 
 #[test]

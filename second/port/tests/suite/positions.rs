@@ -1,8 +1,8 @@
 //! Where a command breaks: number 6 tells the position of the first operation that cannot be read,
 //! and every other answer position 0.
 
-use kit::{command, hex, list, position_by_clauses, read, schedule, set, sets, subscribe};
-use kit::{unsubscribe, Bench, Chance};
+use kit::{command, hex, list, operations_by_clauses, position_by_clauses, read, schedule, set};
+use kit::{sets, subscribe, unsubscribe, valued, Bench, Chance};
 
 /// Where the first operation of a command stands.
 const FIRST: usize = 3;
@@ -14,13 +14,17 @@ fn by_port(message: &[u8]) -> Option<usize> {
 }
 
 /// Operations of each code; the last has a long value.
-fn each_code() -> [Vec<u8>; 6] {
+fn each_code() -> [Vec<u8>; 10] {
     [
         vec![1],
         read(0x0003),
         set(0x0003, &[1]),
         subscribe(0x00A4),
         unsubscribe(0x00A4),
+        valued(6, 0x0003, &[]),
+        valued(7, 0x00A4, &[0, 1]),
+        valued(8, 0xFFFF, &[6]),
+        valued(9, 0x0006, &list(40, 1)),
         set(0x0006, &list(64, 1)),
     ]
 }
@@ -28,9 +32,15 @@ fn each_code() -> [Vec<u8>; 6] {
 /// Operations that cannot be read where nothing of the list is behind them: an unknown code, a name
 /// that is absent or half there, a length that is, and a value that is or that lacks one octet.
 fn broken() -> Vec<Vec<u8>> {
-    let texts = "00|06|FF 0003|02|02 00|03|03 00|04|04 00|05|05 00|03 0003|03 0003 00|03 0003 0001";
+    let texts = "00|0A|0A 0003 0000|FF 0003|02|02 00|04|04 00|05|05 00";
     let mut broken: Vec<Vec<u8>> = texts.split('|').map(hex).collect();
-    broken.extend(["03 0042 0003 0101", "03 0003 FFFF 01"].map(hex));
+    let valued = "|00|0003|0003 00|0003 0001|0042 0003 0101|0003 FFFF 01";
+    for code in [3, 6, 7, 8, 9] {
+        let cut_short = valued
+            .split('|')
+            .map(|rest| [vec![code], hex(rest)].concat());
+        broken.extend(cut_short);
+    }
     broken
 }
 
@@ -40,17 +50,18 @@ fn damaged(chance: &mut Chance) -> Vec<u8> {
     for _ in 0..1 + chance.below(7) {
         let name = [0x0003, 0x0042, chance.below(65_536) as u16][chance.below(3)];
         let length = chance.below(9);
-        list.extend(match chance.below(6) {
+        list.extend(match chance.below(8) {
             0 => vec![1],
             1 => read(name),
             2 => subscribe(name),
             3 => unsubscribe(name),
+            4..=5 => valued(6 + chance.below(4) as u8, name, &chance.octets(length)),
             _ => set(name, &chance.octets(length)),
         });
     }
     for _ in 0..chance.below(4) {
         let at = chance.below(list.len());
-        list[at] = [chance.octet(), chance.below(8) as u8][chance.below(2)];
+        list[at] = [chance.octet(), chance.below(12) as u8][chance.below(2)];
     }
     list.truncate(list.len() - chance.below(2) * chance.below(list.len()));
     list
@@ -61,7 +72,7 @@ fn the_first_operation_stands_at_position_3() {
     for operation in broken() {
         assert_eq!(by_port(&command(&operation)), Some(3), "{operation:02x?}");
     }
-    assert_eq!(by_port(&hex("01 0001 06")), Some(3));
+    assert_eq!(by_port(&hex("01 0001 0A")), Some(3));
     assert_eq!(by_port(&hex("01 0006 03 0003 0002 01")), Some(3));
 }
 
@@ -80,7 +91,7 @@ fn the_examples_of_the_rules() {
 
 #[test]
 fn every_unknown_code_is_told_in_its_place() {
-    for code in (0..=255).filter(|code| !(1..=5).contains(code)) {
+    for code in (0..=255).filter(|code| !(1..=9).contains(code)) {
         let operations = [read(0x0003), vec![code], subscribe(0x0001)].concat();
         assert_eq!(by_port(&command(&operations)), Some(6), "{code:02x}");
     }
@@ -98,7 +109,11 @@ fn what_stands_before_is_counted_in_octets() {
         }
     }
     let all = each_code().concat();
-    assert_eq!(by_port(&command(&[all, vec![0]].concat())), Some(3 + 469));
+    let octets = 1 + 3 + 6 + 3 + 3 + 5 + 7 + 6 + 285 + 453;
+    assert_eq!(
+        by_port(&command(&[all, vec![0]].concat())),
+        Some(FIRST + octets)
+    );
 }
 
 #[test]
@@ -113,11 +128,13 @@ fn what_stands_behind_changes_no_position() {
     }
     // Among them, and broken as well.
     for text in [
-        "06 06",
-        "06 02",
-        "03 0003 FFFF 06",
+        "0A 0A",
+        "0A 02",
+        "03 0003 FFFF 0A",
+        "06 0003 FFFF 0A",
         "00 03 0003 FFFF",
-        "09 01 02 0003 09",
+        "0A 01 02 0003 0A",
+        "09 0003 0005 0A 0A",
     ] {
         let operations = [read(0x0003), hex(text)].concat();
         assert_eq!(by_port(&command(&operations)), Some(6), "{text}");
@@ -126,7 +143,7 @@ fn what_stands_behind_changes_no_position() {
 
 #[test]
 fn a_code_within_a_value_or_a_name_is_no_operation() {
-    let operations = [set(0x0042, &[0; 40]), read(0x0606), subscribe(0xFFFF)].concat();
+    let operations = [set(0x0042, &[0; 40]), read(0x0A0A), subscribe(0xFFFF)].concat();
     assert_eq!(by_port(&command(&operations)), None);
     let operations = [operations, vec![2]].concat();
     assert_eq!(by_port(&command(&operations)), Some(3 + 45 + 6));
@@ -145,7 +162,7 @@ fn the_last_octet_of_the_longest_command() {
         ]
         .concat();
         let position = FIRST + count * operation.len();
-        for last in [0, 2, 6] {
+        for last in [0, 2, 6, 7, 8, 9, 10] {
             let message = command(&[&operations[..], &[last]].concat());
             assert_eq!(message.len(), 2_048);
             assert_eq!(by_port(&message), Some(position));
@@ -164,7 +181,7 @@ fn the_last_octet_of_the_longest_command() {
 fn every_other_number_has_position_0() {
     let mut unsound = Bench::fresh();
     unsound.memory[3] = 1;
-    let broken = command(&[read(0x0003), vec![6]].concat());
+    let broken = command(&[read(0x0003), vec![10]].concat());
     assert_eq!(unsound.position(&broken), (1, 0));
     assert_eq!(Bench::of(vec![0; 2_099]).position(&broken), (1, 0));
     let too_long = [broken, vec![0; 2_048]].concat();
@@ -172,12 +189,12 @@ fn every_other_number_has_position_0() {
     let messages: [(&[u8], u8); 9] = [
         (&[], 2),
         (&too_long, 3),
-        (&[2, 0, 1, 6], 4),
+        (&[2, 0, 1, 10], 4),
         (&[1, 0], 5),
-        (&[1, 0, 0, 6], 5),
-        (&[1, 0, 2, 6], 5),
+        (&[1, 0, 0, 10], 5),
+        (&[1, 0, 2, 10], 5),
         (&many, 7),
-        (&[4, 0, 1, 6], 8),
+        (&[4, 0, 1, 10], 8),
         (&[1, 0, 3, 2, 0, 3], 0),
     ];
     for (message, number) in messages {
@@ -204,7 +221,7 @@ fn every_other_call_has_position_0() {
             // Right before it a command breaks, or would on sound memory.
             let mut memory = Bench::fresh().memory;
             memory.truncate(length);
-            port::take_message(&mut memory, &command(&[6]), &mut room);
+            port::take_message(&mut memory, &command(&[10]), &mut room);
             assert_eq!(call(&mut memory, &mut room).position, 0);
         }
     }
@@ -216,14 +233,23 @@ fn what_the_clauses_give_is_found() {
         ("01", None),
         ("02 0003 03 0003 0001 01 04 0001 05 0001 01", None),
         ("03 0042 0003 060606 01", None),
+        (
+            "06 0003 0000 07 FFFF 0001 01 08 0000 0000 09 0006 0002 0A0A",
+            None,
+        ),
         ("06", Some(3)),
+        ("0A 0003 0000", Some(3)),
+        ("01 09 0003 0001", Some(4)),
         ("02", Some(3)),
         ("01 02 00", Some(4)),
         ("02 0003 03 0003 0002 01", Some(6)),
-        ("03 0042 0003 060606 06 06", Some(11)),
+        ("03 0042 0003 060606 0A 0A", Some(11)),
     ] {
         assert_eq!(position_by_clauses(&hex(list)), position, "{list}");
     }
+    let list = hex("02 0003 09 0006 0002 0A0A 01 08 0003");
+    let whole = ["02 0003", "09 0006 0002 0A0A", "01"].map(hex);
+    assert_eq!(operations_by_clauses(&list), whole);
 }
 
 #[test]

@@ -2,7 +2,7 @@
 //! the reader panic.
 
 use crate::captures::read;
-use kit::{command, list, schedule, sets, subscribe, Bench, Chance, Reply};
+use kit::{command, list, schedule, sets, subscribe, valued, Bench, Chance, Reply};
 
 /// Names of all sorts: listed and not.
 const NAMES: [u16; 12] = [
@@ -14,12 +14,17 @@ fn operations(chance: &mut Chance) -> Vec<u8> {
     let mut operations = Vec::new();
     for _ in 0..1 + chance.below(12) {
         let name = NAMES[chance.below(NAMES.len())];
-        match chance.below(8) {
+        match chance.below(10) {
             0 => operations.push(1),
             1..=3 => operations.extend(kit::read(name)),
             4 => operations.extend(kit::set(0x0006, &list(chance.below(66), 9))),
             5 => operations.extend(kit::set(name, &vec![1; chance.below(300)])),
             6 => operations.extend(sets(&schedule(1 + chance.below(40), 10, [1, 1]))),
+            7 => {
+                let code = 6 + chance.below(4) as u8;
+                operations.extend(valued(code, name, &vec![2; chance.below(300)]));
+            }
+            8 => operations.extend(kit::delete_entry(name, &[])),
             _ => operations.extend(kit::set(name, &[chance.below(3) as u8])),
         }
     }

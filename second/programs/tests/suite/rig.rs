@@ -71,7 +71,7 @@ fn every_call_prints_its_line() {
 
 #[test]
 fn a_message_in_full_prints_its_position() {
-    let long = command(&[set(0x0006, &list(64, 1)), vec![6]].concat());
+    let long = command(&[set(0x0006, &list(64, 1)), vec![10]].concat());
     let script = [
         in_full(64, &command(&subscribe(0x00A4))),
         in_full(64, &command(&read(0x0003))),
@@ -81,7 +81,7 @@ fn a_message_in_full_prints_its_position() {
         in_full(64, &[2]),
         in_full(64, &[1, 0, 0]),
         in_full(64, &[4]),
-        in_full(64, &command(&[6])),
+        in_full(64, &command(&[10])),
         in_full(64, &command(&[read(0x0003), vec![2]].concat())),
         in_full(0, &[command(&hex("01 02 0003 02")), hex("0003")].concat()),
         in_full(64, &long),
@@ -115,7 +115,7 @@ fn a_message_in_full_prints_its_position() {
 fn a_message_in_full_does_what_it_does_in_short() {
     let messages = [
         command(&set(0x0003, &[1])),
-        command(&[set(0x0003, &[0]), vec![6]].concat()),
+        command(&[set(0x0003, &[0]), vec![10]].concat()),
         command(&[subscribe(0x00A4), read(0x0003)].concat()),
         vec![4],
         vec![],
@@ -177,7 +177,7 @@ fn rooms_are_made_anew() {
     ]
     .concat();
     let script = [script, instruction(7, &[]), build(3), instruction(7, &[])].concat();
-    let script = [script, in_full(2, &command(&[6])), instruction(7, &[])].concat();
+    let script = [script, in_full(2, &command(&[10])), instruction(7, &[])].concat();
     let expected = ["7 -", &"a5".repeat(10), "2 -", "-", "11 -", "a5a5a5"];
     let expected = [&expected[..], &["6 3 -", "a5a5"]].concat();
     assert_eq!(lines(RIG, &script), expected);
@@ -292,7 +292,7 @@ fn faulty_instructions_end_the_run() {
 fn a_peer_on_a_pipe_gets_each_answer() {
     let mut peer = Peer::of(RIG);
     for _ in 0..3 {
-        peer.write(&in_full(64, &command(&[6])));
+        peer.write(&in_full(64, &command(&[10])));
         assert_eq!(peer.line(), "6 3 -\n");
         peer.write(&message(64, &command(&read(0x0003))));
         assert_eq!(peer.line(), "0 0271000701000300010000\n");

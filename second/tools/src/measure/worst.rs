@@ -11,11 +11,14 @@ use super::time::{self, Times, SEED};
 use crate::traffic::acts::{Act, Acts, Memory, Name, Scene};
 use crate::traffic::dice::Dice;
 use crate::traffic::measured::{self, Limit};
+use crate::traffic::not_served::{
+    DELETE_ENTRY, SELECTIVE_READ, SELECTIVE_SUBSCRIBE, SELECTIVE_UNSUBSCRIBE,
+};
 
 /// What a message can be worst in: the time of the measured bridge, and its ratio to the second's.
 pub const GOALS: [&str; 2] = ["worst time", "worst ratio"];
 /// Messages that are tried for each goal after those of one act.
-const ROUNDS: usize = 80;
+const ROUNDS: usize = 110;
 /// Acts, one after another, that a message has at most: more would hardly be named.
 const MOST_ACTS: usize = 8;
 /// By this factor a message has to be worse, so that noise is not followed.
@@ -32,9 +35,18 @@ const BESIDE: usize = 32;
 /// The messages that are found are measured on so many times those of a try.
 const CONFIRMED: u64 = 20;
 
-/// What messages are put together from, each with its name; the first word has an s if there are
-/// more than one. Names and values are those that take longest of their sort: the last of the table.
-pub const ACTS: [(&str, Act); 27] = [
+/// The name of which what is not served is asked: the last of the table.
+const LAST: Name = Name::Is(0x8001);
+/// Octets of a long value of what is not served: as many as the longest list has.
+const LONG: usize = 448;
+
+/// Words with which a name may begin, and which have no plural.
+const ADJECTIVES: [&str; 2] = ["selective ", "malformed "];
+
+/// What messages are put together from, each with its name; the first word that has a plural has an
+/// s if there are more than one. Names and values are those that take longest of their sort: the
+/// last of the table.
+pub const ACTS: [(&str, Act); 33] = [
     ("get of capabilities", Act::Capabilities),
     ("read of one octet", Act::Read(Name::Is(0x0060))),
     ("read of 255 octets", Act::Read(Name::Is(0x0061))),
@@ -61,6 +73,24 @@ pub const ACTS: [(&str, Act); 27] = [
     ("commit with wrong sums", Act::WrongCommit),
     ("subscribe", Act::Subscribe(Name::Is(0x8001))),
     ("unsubscribe", Act::Unsubscribe(Name::Is(0x8001))),
+    ("selective read", Act::NotServed(SELECTIVE_READ, LAST, 0)),
+    (
+        "selective read with 448 octets",
+        Act::NotServed(SELECTIVE_READ, LAST, LONG),
+    ),
+    (
+        "selective subscribe",
+        Act::NotServed(SELECTIVE_SUBSCRIBE, LAST, 0),
+    ),
+    (
+        "selective unsubscribe",
+        Act::NotServed(SELECTIVE_UNSUBSCRIBE, LAST, 0),
+    ),
+    ("delete of an entry", Act::NotServed(DELETE_ENTRY, LAST, 0)),
+    (
+        "delete of an entry with 448 octets",
+        Act::NotServed(DELETE_ENTRY, LAST, LONG),
+    ),
     ("malformed operation", Act::Malformed),
     ("frame of 65535 octets", Act::After),
 ];
@@ -225,9 +255,11 @@ pub fn words(mix: &Acts) -> String {
     let act = |(count, act): &(usize, Act)| {
         let name = ACTS.iter().find(|(_, named)| named == act);
         let name = name.map_or("unnamed act", |(name, _)| name);
-        let (first, rest) = name.split_once(' ').unwrap_or((name, ""));
+        let adjective = ADJECTIVES.iter().find(|word| name.starts_with(*word));
+        let noun = adjective.map_or(0, |word| word.len());
+        let end = name[noun..].find(' ').map_or(name.len(), |end| noun + end);
         let plural = if *count == 1 { "" } else { "s" };
-        format!("{count} {first}{plural} {rest}").trim_end().into()
+        format!("{count} {}{plural}{}", &name[..end], &name[end..])
     };
     let mut words: Vec<String> = mix.iter().map(act).collect();
     if mix.is_empty() {

@@ -14,7 +14,7 @@ const SHORT: usize = 10;
 /// Longest message that a frame can hold.
 const LONGEST: usize = 65_535;
 /// A code that no operation has.
-const UNKNOWN: u8 = 6;
+const UNKNOWN: u8 = 0x0A;
 
 /// Which name an operation has. The first of a message that is drawn from the table is any of it.
 #[derive(Clone, Copy, Debug, PartialEq, Eq)]
@@ -56,6 +56,8 @@ pub enum Act {
     Subscribe(Name),
     /// An unsubscribe.
     Unsubscribe(Name),
+    /// What is not served: its code, its name, and how many octets its value has.
+    NotServed(u8, Name, usize),
     /// An operation with an unknown code.
     Malformed,
     /// As many octets after the operations as a frame can hold.
@@ -120,6 +122,9 @@ impl Scene {
             Act::Read(name) => operations.read(self.name(name, place)),
             Act::Subscribe(name) => operations.subscribe(self.name(name, place)),
             Act::Unsubscribe(name) => operations.unsubscribe(self.name(name, place)),
+            Act::NotServed(code, name, length) => {
+                operations.valued(code, self.name(name, place), &vec![1; length])
+            }
             Act::SetAny => {
                 let parameter = &TABLE[*place.insert(self.settable())];
                 let value = values::permitted(&mut self.dice, parameter);

@@ -4,15 +4,15 @@ use port::table::{SetBy, TABLE};
 
 use super::commands::add_any;
 use super::dice::Dice;
-use super::operations::{Operations, BEFORE_LIST, BEFORE_VALUE};
-use super::values;
+use super::operations::{Operations, BEFORE_LIST, BEFORE_VALUE, SET};
+use super::{not_served, values};
 
-/// Codes that no operation has.
-const UNKNOWN: [u8; 8] = [0x00, 0x06, 0x07, 0x08, 0x09, 0x0A, 0x81, 0xFF];
+/// Codes that no operation has, some of them with the low bits of one that has.
+const UNKNOWN: [u8; 8] = [0x00, 0x0A, 0x0A, 0x0B, 0x16, 0x81, 0x89, 0xFF];
 /// Codes of the operations that are a code and a name.
 const NAMED: [u8; 3] = [2, 4, 5];
 /// How many octets more than it has a value is told to have.
-const MORE: [usize; 6] = [0, 0, 1, 9, 300, 60_000];
+const MORE: [usize; 7] = [0, 0, 1, 9, 300, 60_000, 60_000];
 
 /// A command that breaks at its first operation, at its last, or in between. Where it is cut short,
 /// the octets that it lacks often follow.
@@ -42,10 +42,14 @@ fn add_some(dice: &mut Dice, operations: &mut Operations) {
 fn add_broken(dice: &mut Dice, operations: &mut Operations) -> usize {
     let at = operations.length();
     let name = values::name(dice);
-    match dice.below(6) {
+    match dice.below(7) {
         0..=1 => {
-            operations.named(dice.pick(&UNKNOWN), name);
-            // It cannot be read with its name nor without.
+            let code = dice.pick(&UNKNOWN);
+            match dice.one_in(2) {
+                true => operations.named(code, name),
+                false => operations.valued(code, name, &not_served::value(dice, name)),
+            }
+            // It cannot be read with its name and value nor without.
             dice.pick(&[usize::MAX, usize::MAX, at + 1])
         }
         2 => {
@@ -53,28 +57,34 @@ fn add_broken(dice: &mut Dice, operations: &mut Operations) -> usize {
             at + dice.between(1, 2)
         }
         3 => {
-            add_set(dice, operations, 0);
+            add_valued(dice, operations, 0);
             at + dice.between(1, 2)
         }
         4 => {
-            add_set(dice, operations, 0);
+            add_valued(dice, operations, 0);
             at + dice.between(3, 4)
         }
         _ => {
             let more = dice.pick(&MORE);
-            let told = add_set(dice, operations, more);
+            let told = add_valued(dice, operations, more);
             let there = dice.below(told);
             at + BEFORE_VALUE + dice.pick(&[there, told - 1])
         }
     }
 }
 
-/// Adds a set that tells so many octets more than its value has; all that it tells, which is one or
-/// more, so that one can be lacking.
-fn add_set(dice: &mut Dice, operations: &mut Operations, more: usize) -> usize {
-    let parameter = &TABLE[values::place(dice, SetBy::Controller)];
-    let value = values::permitted(dice, parameter);
+/// Adds a set, or what is laid out as one, that tells so many octets more than its value has; all
+/// that it tells, which is one or more, so that one can be lacking.
+fn add_valued(dice: &mut Dice, operations: &mut Operations, more: usize) -> usize {
+    let (code, name, value) = if dice.one_in(2) {
+        let parameter = &TABLE[values::place(dice, SetBy::Controller)];
+        (SET, parameter.name, values::permitted(dice, parameter))
+    } else {
+        let name = not_served::name(dice);
+        let value = not_served::value(dice, name);
+        (dice.pick(&not_served::CODES), name, value)
+    };
     let told = (value.len() + more).max(1);
-    operations.set_telling(parameter.name, told, &value);
+    operations.valued_telling(code, name, told, &value);
     told
 }

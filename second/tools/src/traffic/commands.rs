@@ -3,6 +3,7 @@
 use port::table::{SetBy, COMMIT, TABLE};
 
 use super::dice::Dice;
+use super::not_served::{self, DELETE_ENTRY, SELECTIVE_READ};
 use super::operations::{Operations, BEFORE_LIST, COMMAND};
 use super::{schedules, values};
 
@@ -10,6 +11,8 @@ const NOTIFY_ACK: u8 = 0x04;
 const GATE_ENABLED: u16 = 0x0003;
 const CHASSIS_ID: u16 = 0x0042;
 const UNLISTED: u16 = 0x0002;
+/// Codes that no operation has.
+const UNKNOWN: [u8; 5] = [0x00, 0x0A, 0x0A, 0x0B, 0xFF];
 
 /// Longest message that is taken.
 const LONGEST: usize = 2_048;
@@ -18,7 +21,7 @@ const LONGEST_LIST: usize = LONGEST - BEFORE_LIST;
 
 /// Any message, fit for the sound memory that will take it.
 pub fn message(dice: &mut Dice, memory: &[u8]) -> Vec<u8> {
-    match dice.below(38) {
+    match dice.below(41) {
         0..=13 => mixed(dice).command(),
         14..=19 => schedules::operations(dice, memory).command(),
         20 => schedules::recommit(memory).command(),
@@ -30,6 +33,7 @@ pub fn message(dice: &mut Dice, memory: &[u8]) -> Vec<u8> {
         32..=33 => wrong_length(dice),
         34..=35 => malformed(dice),
         36 => wrong_type(dice),
+        37..=39 => not_served::beside_others(dice).command(),
         _ => acknowledgement(dice),
     }
 }
@@ -67,12 +71,13 @@ fn mixed(dice: &mut Dice) -> Operations {
 /// Adds any operation that can be read.
 pub fn add_any(dice: &mut Dice, operations: &mut Operations) {
     let name = values::name(dice);
-    match dice.below(14) {
+    match dice.below(17) {
         0 => operations.get_capabilities(),
         1..=4 => operations.read(name),
         5..=6 => operations.subscribe(name),
         7 => operations.unsubscribe(name),
         8 => operations.set(name, &[1]),
+        9..=11 => not_served::add(dice, operations),
         _ => {
             let parameter = &TABLE[values::place(dice, SetBy::Controller)];
             let value = values::permitted(dice, parameter);
@@ -96,27 +101,38 @@ fn off_values(dice: &mut Dice) -> Operations {
 fn many(dice: &mut Dice) -> Operations {
     let count = dice.pick(&[255, 255, 256]);
     let (sets, name) = (dice.one_in(2), dice.pick(&[GATE_ENABLED, UNLISTED]));
+    // What is not served is counted with what fails: none of it, some of it, or nothing else.
+    let one_in = dice.pick(&[usize::MAX, usize::MAX, 2, 1]);
     let mut operations = Operations::default();
     for _ in 0..count {
-        match sets {
-            true => operations.set(name, &[dice.below(2) as u8]),
-            false => operations.read(name),
+        match (sets, dice.one_in(one_in)) {
+            (true, false) => operations.set(name, &[dice.below(2) as u8]),
+            (true, true) => operations.valued(DELETE_ENTRY, name, &[]),
+            (false, false) => operations.read(name),
+            (false, true) => operations.valued(SELECTIVE_READ, name, &[]),
         }
     }
-    if dice.one_in(2) {
-        operations.read(dice.pick(&[UNLISTED, GATE_ENABLED]));
+    match dice.below(4) {
+        0..=1 => {}
+        2 => operations.read(dice.pick(&[UNLISTED, GATE_ENABLED])),
+        _ => not_served::add(dice, &mut operations),
     }
     operations
 }
 
 /// A message of 2,048 octets, or of more, filled with operations or with octets after them.
 fn longest(dice: &mut Dice) -> Vec<u8> {
-    let mut message = match dice.below(3) {
+    let length = match dice.below(7) {
+        0..=2 => LONGEST,
+        3..=5 => LONGEST + 1,
+        _ => 65_535,
+    };
+    let mut message = match dice.below(4) {
         0 => vec![NOTIFY_ACK],
         1 => mixed(dice).command(),
+        2 => not_served::filled(dice, length).command(),
         _ => filled(dice).command(),
     };
-    let length = dice.pick(&[LONGEST, LONGEST, LONGEST + 1, LONGEST + 1, 65_535]);
     let fill = dice.octet();
     message.resize(length, fill);
     message
@@ -155,7 +171,11 @@ fn large_reply(dice: &mut Dice) -> Operations {
         left -= 5;
     }
     for _ in 0..left / 3 {
-        operations.read(UNLISTED);
+        match dice.below(4) {
+            0 => operations.valued(SELECTIVE_READ, GATE_ENABLED, &[]),
+            1 => operations.valued(DELETE_ENTRY, CHASSIS_ID, &[]),
+            _ => operations.read(UNLISTED),
+        }
     }
     operations
 }
@@ -189,16 +209,20 @@ fn malformed(dice: &mut Dice) -> Vec<u8> {
         _ => many(dice),
     };
     if dice.one_in(2) {
-        // With a name after it, only the code itself is wrong.
-        let name = values::name(dice);
-        operations.named(dice.pick(&[0, 6, 7, 255]), name);
+        // With a name after it, or a name and a value, only the code itself is wrong.
+        let (code, name) = (dice.pick(&UNKNOWN), values::name(dice));
+        match dice.one_in(2) {
+            true => operations.named(code, name),
+            false => operations.valued(code, name, &not_served::value(dice, name)),
+        }
         return operations.command();
     }
     let before = operations.length();
     let parameter = &TABLE[values::place(dice, SetBy::Controller)];
-    match dice.below(3) {
+    match dice.below(4) {
         0 => operations.read(parameter.name),
         1 => operations.subscribe(TABLE[COMMIT].name),
+        2 => not_served::add(dice, &mut operations),
         _ => operations.set(parameter.name, &values::permitted(dice, parameter)),
     }
     let whole = operations.length();

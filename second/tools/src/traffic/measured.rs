@@ -3,6 +3,7 @@
 use std::io::{self, Write};
 
 use super::acts::{Act, Acts, Memory, Name, Scene};
+use super::not_served::{DELETE_ENTRY, SELECTIVE_READ, SELECTIVE_SUBSCRIBE};
 use super::pieces::frame;
 
 /// A stream: after the frames that prepare memory, the same sort of messages again and again.
@@ -55,7 +56,7 @@ const READ_SET: Act = Act::Read(Name::Same);
 const READ_SUMS: Act = Act::Read(Name::Is(0x8001));
 
 /// All of them.
-pub static STREAMS: [Stream; 21] = [
+pub static STREAMS: [Stream; 24] = [
     Stream {
         word: "mixed",
         what: "by turns 1 read, 16 reads, set and read",
@@ -235,6 +236,30 @@ pub static STREAMS: [Stream; 21] = [
         one_in: 40,
         memory: Memory::Full,
         turns: &[&[(680, Act::Subscribe(Name::Next))]],
+    },
+    Stream {
+        word: "selective-reads-255",
+        what: "255 selective reads",
+        limit: Limit::ReadsAndSets,
+        one_in: 25,
+        memory: Memory::Full,
+        turns: &[&[(255, Act::NotServed(SELECTIVE_READ, Name::Next, 0))]],
+    },
+    Stream {
+        word: "deletes-255",
+        what: "255 deletes of entries",
+        limit: Limit::ReadsAndSets,
+        one_in: 25,
+        memory: Memory::Full,
+        turns: &[&[(255, Act::NotServed(DELETE_ENTRY, Name::Next, 0))]],
+    },
+    Stream {
+        word: "selective-subscribes-409",
+        what: "409 selective subscribes",
+        limit: Limit::Any,
+        one_in: 30,
+        memory: Memory::Full,
+        turns: &[&[(409, Act::NotServed(SELECTIVE_SUBSCRIBE, Name::Next, 0))]],
     },
 ];
 

@@ -10,6 +10,7 @@ mod edges;
 mod frames;
 pub mod measured;
 mod memories;
+pub mod not_served;
 mod operations;
 mod pieces;
 mod schedules;

@@ -4,8 +4,10 @@
 pub const COMMAND: u8 = 0x01;
 /// Octets of a command before its operations: its type, L.
 pub const BEFORE_LIST: usize = 3;
-/// Octets of a set before its value: its code, name, length.
+/// Octets of a set before its value, and of what is laid out as one: its code, name, length.
 pub const BEFORE_VALUE: usize = 5;
+/// The code of a set.
+pub const SET: u8 = 3;
 
 /// A list of operations under construction.
 #[derive(Default)]
@@ -29,12 +31,17 @@ impl Operations {
 
     /// Adds a set.
     pub fn set(&mut self, name: u16, value: &[u8]) {
-        self.set_telling(name, value.len(), value);
+        self.valued(SET, name, value);
     }
 
-    /// Adds a set that tells another length of its value.
-    pub fn set_telling(&mut self, name: u16, length: usize, value: &[u8]) {
-        self.named(3, name);
+    /// Adds an operation of any code that is laid out as a set.
+    pub fn valued(&mut self, code: u8, name: u16, value: &[u8]) {
+        self.valued_telling(code, name, value.len(), value);
+    }
+
+    /// Adds such an operation that tells another length of its value.
+    pub fn valued_telling(&mut self, code: u8, name: u16, length: usize, value: &[u8]) {
+        self.named(code, name);
         self.0.extend((length as u16).to_be_bytes());
         self.0.extend(value);
     }

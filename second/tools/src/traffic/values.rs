@@ -5,7 +5,7 @@ use port::table::{Parameter, Rule, SetBy, COUNT, TABLE};
 use super::dice::Dice;
 
 /// Names near the listed ones, and some that share an octet with them.
-const UNLISTED: [u16; 16] = [
+pub const UNLISTED: [u16; 16] = [
     0x0000, 0x0002, 0x0009, 0x000A, 0x000C, 0x003F, 0x0043, 0x009F, 0x00A5, 0x00FF, 0x0103, 0x0300,
     0x7FFF, 0x8000, 0x8002, 0xFFFF,
 ];
@@ -16,10 +16,15 @@ const ENTRIES: [usize; 5] = [0, 1, 36, 37, 64];
 /// A name, mostly a listed one.
 pub fn name(dice: &mut Dice) -> u16 {
     if dice.one_in(10) {
-        dice.pick(&UNLISTED)
+        unlisted(dice)
     } else {
         TABLE[dice.below(COUNT)].name
     }
+}
+
+/// A name that is not listed.
+pub fn unlisted(dice: &mut Dice) -> u16 {
+    dice.pick(&UNLISTED)
 }
 
 /// The place of a parameter set by `setter`.

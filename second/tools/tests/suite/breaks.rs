@@ -38,7 +38,7 @@ pub const SORTS: [Sort; 6] = [
 pub const PLACES: [Place; 3] = [Place::First, Place::Middle, Place::Last];
 
 /// The list of a command whose L octets are there, and which is not too long.
-fn list(message: &[u8]) -> Option<&[u8]> {
+pub fn list(message: &[u8]) -> Option<&[u8]> {
     let [1, high, low, rest @ ..] = message else {
         return None;
     };
@@ -59,11 +59,11 @@ pub fn break_of(message: &[u8]) -> Option<Break> {
     let list = list(message)?;
     let position = position_by_clauses(list)?;
     let sort = match list[position - 3..] {
-        [0 | 6..=255, ..] => Sort::Code,
+        [0 | 10..=255, ..] => Sort::Code,
         [_] => Sort::Name,
         [_, _] => Sort::HalfName,
-        [3, _, _] => Sort::Length,
-        [3, _, _, _] => Sort::HalfLength,
+        [_, _, _] => Sort::Length,
+        [_, _, _, _] => Sort::HalfLength,
         _ => Sort::Value,
     };
     let place = match position + whole(&message[position..]) {
@@ -81,8 +81,8 @@ pub fn break_of(message: &[u8]) -> Option<Break> {
 /// How many octets the operation at the front has, if octets behind the list count.
 fn whole(octets: &[u8]) -> usize {
     match octets {
-        [3, _, _, high, low, ..] => 5 + usize::from(*high) * 256 + usize::from(*low),
-        [3, ..] => 5,
+        [3 | 6..=9, _, _, high, low, ..] => 5 + usize::from(*high) * 256 + usize::from(*low),
+        [3 | 6..=9, ..] => 5,
         [1, ..] => 1,
         _ => 3,
     }
@@ -248,10 +248,10 @@ fn sorts_and_places_are_told_apart() {
         let how = break_of(&[&command(operations), behind].concat())?;
         Some((how.sort, how.place))
     };
-    assert_eq!(at(&[1, 2, 0, 3], &[6]), None);
-    assert_eq!(at(&[6], &[]), Some((Code, First)));
-    assert_eq!(at(&[1, 6, 0, 3], &[]), Some((Code, Last)));
-    assert_eq!(at(&[1, 6, 0, 3, 1], &[]), Some((Code, Middle)));
+    assert_eq!(at(&[1, 2, 0, 3], &[10]), None);
+    assert_eq!(at(&[10], &[]), Some((Code, First)));
+    assert_eq!(at(&[1, 10, 0, 3], &[]), Some((Code, Last)));
+    assert_eq!(at(&[1, 10, 0, 3, 1], &[]), Some((Code, Middle)));
     assert_eq!(at(&[1, 2], &[]), Some((Name, Last)));
     assert_eq!(at(&[1, 2], &[0, 3]), Some((Name, Last)));
     assert_eq!(at(&[1, 2, 0], &[3, 1]), Some((HalfName, Middle)));
@@ -259,5 +259,9 @@ fn sorts_and_places_are_told_apart() {
     assert_eq!(at(&[3, 0, 3, 0], &[0]), Some((HalfLength, First)));
     assert_eq!(at(&[1, 3, 0, 3, 0, 2, 1], &[1]), Some((Value, Last)));
     assert_eq!(at(&[1, 3, 0, 3, 0, 2, 1], &[1, 1]), Some((Value, Middle)));
-    assert_eq!(break_of(&[1, 0, 2, 6]), None);
+    assert_eq!(at(&[6, 0, 3, 0, 1, 1, 9], &[]), Some((Name, Last)));
+    assert_eq!(at(&[1, 7, 0, 3], &[0, 0]), Some((Length, Last)));
+    assert_eq!(at(&[8, 0, 3, 0], &[0]), Some((HalfLength, First)));
+    assert_eq!(at(&[1, 9, 0, 3, 0, 2, 1], &[1, 1]), Some((Value, Middle)));
+    assert_eq!(break_of(&[1, 0, 2, 10]), None);
 }

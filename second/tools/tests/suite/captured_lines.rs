@@ -9,7 +9,7 @@ use tools::traffic::{least_lines, stream, Kind};
 
 use crate::shapes::{assert_often, names, prints, shown, FORMS, PRINTED, SHAPES};
 
-const STREAMS: u64 = 150;
+const STREAMS: u64 = 160;
 const LINES: u64 = 200;
 /// The kinds of record that stand behind a count.
 const COUNTED: [&str; 4] = ["value", "read-error", "update", "update-error"];

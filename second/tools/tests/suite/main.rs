@@ -6,6 +6,7 @@ mod compare;
 mod gate;
 mod limits;
 mod measure;
+mod not_served_streams;
 mod process;
 mod shapes;
 mod stack;

@@ -71,6 +71,9 @@ fn each_stream_is_answered_as_its_row_says() {
         ("commits-150", [2, 151, 1]),
         ("lists-4", [0, 4, 0]),
         ("subscribes-680", [0, 0, 0]),
+        ("selective-reads-255", [255, 0, 0]),
+        ("deletes-255", [0, 0, 255]),
+        ("selective-subscribes-409", [0, 0, 0]),
     ];
     for (word, expected) in expected {
         for reply in replies(word) {
@@ -97,6 +100,9 @@ fn long_messages_are_taken() {
         ("commits-226", 3 + 226 * 9),
         ("subscribes-680", 3 + 680 * 3),
         ("lists-4", 3 + 4 * (5 + 448)),
+        ("selective-reads-255", 3 + 255 * 5),
+        ("deletes-255", 3 + 255 * 5),
+        ("selective-subscribes-409", 3 + 409 * 5),
         ("commits-150", 3 + 1 + 2 * 3 + 150 * 9 + 6 + (5 + 448)),
     ];
     for (word, length) in lengths {
@@ -160,6 +166,22 @@ fn a_record_of_each_kind_stands_beside_the_commits() {
         assert_eq!(reply.update_errors, [(0x0003, 2)]);
         assert_eq!(reply.long_updates.len(), 1);
         assert_eq!(reply.long_updates[0].1.len(), 448);
+    }
+}
+
+/// All round the table, and each with the cause of what is not served.
+#[test]
+fn selective_reads_and_deletes_fail() {
+    let errors: [(&str, fn(&Reply) -> &Vec<(u16, u8)>); 2] = [
+        ("selective-reads-255", |reply| &reply.read_errors),
+        ("deletes-255", |reply| &reply.update_errors),
+    ];
+    for (word, errors) in errors {
+        for reply in replies(word) {
+            let names: BTreeSet<u16> = errors(&reply).iter().map(|(name, _)| *name).collect();
+            assert_eq!(names.len(), 19, "{word}");
+            assert!(errors(&reply).iter().all(|(_, cause)| *cause == 0x6F));
+        }
     }
 }
 

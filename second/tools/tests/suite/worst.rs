@@ -7,6 +7,7 @@ use tools::measure::worst::{number, of_one_act, search, words, Mix, ACTS};
 use tools::traffic::acts::{Act, Acts, Memory, Name, Scene};
 
 const SUMS: Act = Act::Read(Name::Is(0x8001));
+const SELECTIVE: Act = Act::NotServed(6, Name::Is(0x8001), 0);
 
 /// How many operations of an act a message has.
 fn count(mix: &Acts, act: Act) -> f64 {
@@ -26,6 +27,9 @@ fn messages_of_one_act_are_tried_to_every_limit() {
         vec![(680, SUMS), (1, Act::Malformed)],
         vec![(15, Act::Read(Name::Is(0x0061)))],
         vec![(1, Act::After)],
+        vec![(255, SELECTIVE)],
+        vec![(409, SELECTIVE)],
+        vec![(408, SELECTIVE), (1, Act::Malformed)],
     ] {
         assert!(mixes.contains(&mix), "{mix:?}");
     }
@@ -74,7 +78,7 @@ fn a_search_mixes_what_is_worse_together() {
         found.costs,
         [0, 1].map(|goal| cost(&found.worst[goal])[goal])
     );
-    assert_eq!(found.tried, of_one_act().len() + 160);
+    assert_eq!(found.tried, of_one_act().len() + 220);
     assert!(calls > found.tried && calls < 2 * found.tried);
 }
 
@@ -117,6 +121,14 @@ fn messages_are_named_by_what_they_hold() {
         (
             vec![(1, Act::After)],
             "1 frame of 65535 octets; refused with 3",
+        ),
+        (
+            vec![(2, SELECTIVE), (3, Act::NotServed(9, Name::Is(0x8001), 0))],
+            "2 selective reads, 3 deletes of an entry",
+        ),
+        (
+            vec![(2, Act::Malformed)],
+            "2 malformed operations; refused with 6",
         ),
     ];
     for (mix, name) in named {

@@ -73,7 +73,7 @@ fn messages(edges: &mut Edges) {
             &[&read.command_telling(length)[..], &[1, 0]].concat(),
         );
     }
-    for code in (0..=8).chain([0x81, 0xFF]) {
+    for code in (0..=0x0A).chain([0x81, 0xFF]) {
         edges.message(AMPLE, &[1, 0, 1, code]);
         edges.message(AMPLE, &[1, 0, 3, code, 0, 3]);
         edges.message(AMPLE, &[1, 0, 6, code, 0, 3, 0, 1, 1]);
@@ -87,7 +87,7 @@ fn messages(edges: &mut Edges) {
 
 /// Commands that are refused behind a set, and commands in which a set fails.
 fn half_done(edges: &mut Edges) {
-    for last in [&[6][..], &[3, 0, 3, 0, 2, 1], &[2, 0]] {
+    for last in [&[0x0A][..], &[3, 0, 3, 0, 2, 1], &[2, 0]] {
         let list = [&[3, 0, 3, 0, 1, 1, 4, 0, 0xA4], last].concat();
         let [high, low] = (list.len() as u16).to_be_bytes();
         edges.message(AMPLE, &[&[1, high, low], &list[..]].concat());

@@ -6,6 +6,7 @@
 mod calls;
 mod marks;
 mod memories;
+mod not_served;
 mod positions;
 mod replies;
 mod schedules;
@@ -25,6 +26,7 @@ pub fn write<W: Write>(count: u64, sink: &mut W) -> io::Result<()> {
     marks::add(&mut edges);
     calls::add(&mut edges);
     positions::add(&mut edges);
+    not_served::add(&mut edges);
     replies::add(&mut edges);
     memories::add(&mut edges);
     edges.fresh();

@@ -9,31 +9,34 @@ use crate::traffic::operations::{Operations, BEFORE_LIST, BEFORE_VALUE};
 const LONGEST: usize = 2_048;
 
 /// A whole operation of each code, and sets that fail.
-const WHOLE: [&[u8]; 8] = [
+const WHOLE: [&[u8]; 12] = [
     &[1],
     &[2, 0, 3],
     &[3, 0, 3, 0, 1, 1],
     &[4, 0, 0xA4],
     &[5, 0, 0xA4],
+    &[6, 0, 3, 0, 0],
+    &[7, 0, 0xA4, 0, 1, 1],
+    &[8, 0, 0xA4, 0, 0],
+    &[9, 0, 6, 0, 2, 0x0A, 0x0A],
     &[3, 0, 2, 0, 0],
     &[3, 0, 0x0B, 0, 4, 0, 0, 0, 0x40],
     &[3, 0, 0x42, 0, 9, 6, 6, 6, 6, 6, 6, 6, 6, 6],
 ];
 
 /// Operations with an unknown code.
-const MALFORMED: [&[u8]; 7] = [
+const MALFORMED: [&[u8]; 6] = [
     &[0],
-    &[6],
-    &[9],
     &[0x0A],
+    &[0x0B],
     &[0x81],
     &[0xFF, 0, 3],
-    &[7, 0, 3, 0, 1, 1],
+    &[0x0A, 0, 3, 0, 1, 1],
 ];
 
 /// Operations that are cut short, and what they lack: the name, the length or the value, all of it
 /// or a part.
-const CUT_SHORT: [(&[u8], &[u8]); 14] = [
+const CUT_SHORT: [(&[u8], &[u8]); 18] = [
     (&[2], &[0, 3]),
     (&[2, 0], &[3]),
     (&[3], &[0, 3, 0, 1, 1]),
@@ -48,18 +51,23 @@ const CUT_SHORT: [(&[u8], &[u8]); 14] = [
     (&[3, 0, 0x42, 0, 3, 1, 1], &[1]),
     (&[3, 0, 0x42, 1, 0, 1, 1], &[1; 254]),
     (&[3, 0, 0x42, 0xFF, 0xFF], &[1, 1]),
+    (&[6], &[0, 3, 0, 0]),
+    (&[7, 0], &[0xA4, 0, 1, 1]),
+    (&[8, 0, 3, 0], &[1, 1]),
+    (&[9, 0, 3, 0, 2, 1], &[1]),
 ];
 
 /// Lists with two operations that cannot be read. A value may swallow the second.
-const TWICE: [&[u8]; 8] = [
-    &[6, 6],
-    &[6, 2, 0, 3, 0],
+const TWICE: [&[u8]; 9] = [
+    &[0x0A, 0x0A],
+    &[0x0A, 2, 0, 3, 0],
     &[0, 1, 1, 0xFF],
-    &[9, 2],
-    &[9, 4, 0],
-    &[7, 3, 0, 3, 0, 2, 1],
-    &[3, 0, 3, 0, 4, 6, 6],
-    &[0xFF, 3, 0, 3, 0, 1, 1, 6, 3, 0, 3],
+    &[0x0B, 2],
+    &[0x0B, 4, 0],
+    &[0x0A, 3, 0, 3, 0, 2, 1],
+    &[3, 0, 3, 0, 4, 0x0A, 0x0A],
+    &[9, 0, 3, 0, 4, 0x0A, 0x0A],
+    &[0xFF, 3, 0, 3, 0, 1, 1, 0x0A, 3, 0, 3],
 ];
 
 pub fn add(edges: &mut Edges) {
@@ -137,15 +145,15 @@ fn far(edges: &mut Edges) {
     let chassis = [&[3, 0, 0x42, 0, 255][..], &[6; 255]].concat();
     for before in [&list, &chassis, &[2, 0, 3].repeat(100), &vec![1; 300]] {
         for count in [1, 3] {
-            for broken in [&[6][..], &[3, 0, 3, 0, 2, 1]] {
+            for broken in [&[0x0A][..], &[3, 0, 3, 0, 2, 1]] {
                 told(edges, &[&before.repeat(count), broken].concat(), &[0; 2]);
             }
         }
     }
-    told(edges, &[&list[..], &[6], &chassis, &[7]].concat(), &[]);
+    told(edges, &[&list[..], &[0x0A], &chassis, &[0]].concat(), &[]);
     for power in [128, 256, 512, 1_024] {
         for position in [power - 1, power, power + 1] {
-            told(edges, &[&set_before(position), &[9][..]].concat(), &[]);
+            told(edges, &[&set_before(position), &[0x0A][..]].concat(), &[]);
             told(edges, &[&set_before(position), &[2][..]].concat(), &[0, 3]);
         }
     }
@@ -166,20 +174,22 @@ fn longest(edges: &mut Edges) {
     let reads = [&[2, 0, 3].repeat(last / 3)[..], &[1][..last % 3]].concat();
     for before in [reads, set_before(LONGEST - 1), vec![1; last]] {
         told(edges, &[&before[..], &[4]].concat(), &[]);
+        told(edges, &[&before[..], &[0x0A]].concat(), &[]);
         told(edges, &[&before[..], &[6]].concat(), &[]);
-        told(edges, &[&before[..], &[6]].concat(), &[6]);
+        told(edges, &[&before[..], &[0x0A]].concat(), &[0x0A]);
     }
     told(edges, &[1, 3], &vec![0; LONGEST - BEFORE_LIST - 2]);
 }
 
 /// Every number in full, each with a list that would break.
 fn numbers(edges: &mut Edges) {
-    let broken = command(&[4, 0, 0xA4, 6], &[]);
-    told(edges, &[4, 0, 0xA4], &[6]);
+    let broken = command(&[4, 0, 0xA4, 0x0A], &[]);
+    told(edges, &[4, 0, 0xA4], &[0x0A]);
     // An empty message, and an acknowledgement while idle.
     for room in [0, 1, AMPLE] {
+        edges.message(room, &[]);
         edges.message_in_full(room, &[]);
-        edges.message_in_full(room, &[4, 0, 1, 6]);
+        edges.message_in_full(room, &[4, 0, 1, 0x0A]);
     }
     for kind in [0, 2, 5] {
         edges.message_in_full(AMPLE, &[&[kind], &broken[1..]].concat());
@@ -187,27 +197,27 @@ fn numbers(edges: &mut Edges) {
     for list in [
         &[1][..],
         &[1, 0],
-        &[1, 0, 0, 6],
-        &[1, 0, 2, 6],
+        &[1, 0, 0, 0x0A],
+        &[1, 0, 2, 0x0A],
         &[1, 6, 6, 6],
     ] {
         edges.message_in_full(AMPLE, list);
     }
-    told(edges, &[2, 0, 3].repeat(256), &[6]);
-    edges.message_in_full(10, &command(&[2, 0, 3], &[6]));
+    told(edges, &[2, 0, 3].repeat(256), &[0x0A]);
+    edges.message_in_full(10, &command(&[2, 0, 3], &[0x0A]));
     edges.message_in_full(0, &command(&[4, 0, 0xA4], &[]));
     edges.message_in_full(0, &broken);
     // An acknowledgement while waiting, in rooms of none and of one octet.
     edges.local(0x00A4, &[1, 2]);
     edges.build();
     edges.message_in_full(AMPLE, &broken);
-    edges.message_in_full(0, &[4, 0, 1, 6]);
-    edges.message_in_full(1, &[4, 0, 1, 6]);
+    edges.message_in_full(0, &[4, 0, 1, 0x0A]);
+    edges.message_in_full(1, &[4, 0, 1, 0x0A]);
 }
 
 /// Memory of a wrong length, and memory that is not sound, until it is made fresh.
 fn memories(edges: &mut Edges) {
-    let broken = command(&[4, 0, 0xA4, 6], &[]);
+    let broken = command(&[4, 0, 0xA4, 0x0A], &[]);
     for memory in [vec![0; SIZE - 1], vec![0; SIZE]] {
         edges.lend(&memory);
         edges.message_in_full(AMPLE, &broken);
@@ -221,7 +231,7 @@ fn memories(edges: &mut Edges) {
 /// Rooms are made anew and shown, by messages in full and by others by turns.
 fn rooms(edges: &mut Edges) {
     for room in [0, 1, 11, 14] {
-        for list in [&[2, 0, 3][..], &[2, 0, 3, 6]] {
+        for list in [&[2, 0, 3][..], &[2, 0, 3, 0x0A]] {
             edges.message_in_full(room, &command(list, &[]));
             edges.show_room();
             edges.message(room + 1, &command(list, &[]));
@@ -229,12 +239,12 @@ fn rooms(edges: &mut Edges) {
         }
     }
     edges.message_in_full(12, &command(&[2, 0, 3], &[]));
-    edges.message_in_full(13, &command(&[6], &[]));
+    edges.message_in_full(13, &command(&[0x0A], &[]));
     edges.show_room();
     edges.build_into(2);
     edges.show_room();
-    edges.message_in_full(8_193, &command(&[6], &[]));
+    edges.message_in_full(8_193, &command(&[0x0A], &[]));
     edges.show_room();
-    edges.message(3, &command(&[6], &[]));
+    edges.message(3, &command(&[0x0A], &[]));
     edges.show_room();
 }

@@ -1,0 +1,86 @@
+-- `operation::valued_at` meets its contract.
+use native.Mathlib.Omega.{arith}
+use mathlib.Core.Logic.{⊎-elim}
+use borrow.Author.Needs.{needs}
+use Rattle.operation.proofs.Found.{length-short, value-short, set-found, selective-read-found, selective-subscribe-found, selective-unsubscribe-found, delete-entry-found, other-found}
+use Rattle.operation.proofs.valued_at.Statement.{statement}
+use Rattle.operation.proofs.valued_at.Tie as tie
+
+sub-left : tie.Need-sub-left
+sub-left c = search needs
+
+add-position : tie.Need-add-position
+add-position c = search needs
+
+returns : tie.Need-returns
+returns c =
+    let s = c .before .before in
+    length-short _ _ (omega (arith, s .pre .0)) (s .pre .1) (c .if1 .taken)
+
+add-get16 : tie.Need-add-get16
+add-get16 c = search needs
+
+get16-requires : tie.Need-get16-requires
+get16-requires c κs = search needs
+
+add-if2 : tie.Need-add-if2
+add-if2 c = search needs
+
+returns-2 : tie.Need-returns-2
+returns-2 c =
+    let s = c .before .before .before .before in
+    let z = c .before .get16 in
+    value-short _ _ (omega (arith, s .pre .0)) (z .result) (s .pre .1) (z .ensures .0) (omega (arith, c .if2 .taken))
+
+add-get16-2 : tie.Need-add-get16-2
+add-get16-2 c = search needs
+
+get16-requires-2 : tie.Need-get16-requires-2
+get16-requires-2 c κs = search needs
+
+add-from : tie.Need-add-from
+add-from c = search needs
+
+shared-slice-read-match : tie.Need-shared-slice-read-match
+shared-slice-read-match c = search needs
+
+returns-3 : tie.Need-returns-3
+returns-3 c =
+    let s = c .before .before .before .before .before .before .before in
+    let r = c .match .rest in
+    other-found _ _ (omega (arith, s .pre .0)) (s .pre .1) (r .0 .0 .0 .0 .1) (r .0 .0 .0 .1) (r .0 .0 .1) (r .0 .1) (r .1)
+
+add-t9 : tie.Need-add-t9
+add-t9 c = search needs
+
+returns-4 : tie.Need-returns-4
+returns-4 c =
+    let n = c .before .before .get162 in
+    let i = c .before .before .before in
+    let z = i .before .get16 in
+    let s = i .before .before .before .before in
+    ⊎-elim (λ w. set-found _ _ (omega (arith, s .pre .0)) (n .result) _ (z .result) _ (omega arith) (n .ensures .0) (z .ensures .0) (omega (arith, i .if2 .left)) (w .0 .keys1) (w .1))
+    (⊎-elim (λ w. selective-read-found _ _ (omega (arith, s .pre .0)) (n .result) _ (z .result) _ (omega arith) (n .ensures .0) (z .ensures .0) (omega (arith, i .if2 .left)) (w .0 .keys2) (w .1))
+    (⊎-elim (λ w. selective-subscribe-found _ _ (omega (arith, s .pre .0)) (n .result) _ (z .result) _ (omega arith) (n .ensures .0) (z .ensures .0) (omega (arith, i .if2 .left)) (w .0 .keys3) (w .1))
+    (⊎-elim (λ w. selective-unsubscribe-found _ _ (omega (arith, s .pre .0)) (n .result) _ (z .result) _ (omega arith) (n .ensures .0) (z .ensures .0) (omega (arith, i .if2 .left)) (w .0 .keys4) (w .1))
+    (λ w. delete-entry-found _ _ (omega (arith, s .pre .0)) (n .result) _ (z .result) _ (omega arith) (n .ensures .0) (z .ensures .0) (omega (arith, i .if2 .left)) (w .0 .keys5) (w .1)))))
+    (c .match .came)
+
+pub valued-at-spec : {M : Type 1} → statement M
+valued-at-spec =
+    tie.close
+    (tie.spec
+    sub-left
+    add-position
+    returns
+    add-get16
+    get16-requires
+    add-if2
+    returns-2
+    add-get16-2
+    get16-requires-2
+    add-from
+    shared-slice-read-match
+    returns-3
+    add-t9
+    returns-4)
