@@ -1,10 +1,11 @@
 // The operations of a command, handed out from its list of octets by a reader (RULES 10.10), and whether a list is whole.
 // What is handed out is what `meaning` finds at the place.
-ghost use Prim.Native.Nat.{_+_, _≤_};
+ghost use Prim.Native.Nat.{_+_, _≤_, _<_};
 ghost use mathlib.Core.Path.{_≡_};
 ghost use lib.ListN.{length};
 ghost use Rattle.meaning.specs.Octets.{octet};
-ghost use Rattle.operation.specs.Handing.{nameOf, fromOf, sizeOf, NoValue, handedAt, wholeness};
+ghost use Rattle.meaning.specs.Operation.{bad};
+ghost use Rattle.operation.specs.Handing.{nameOf, fromOf, sizeOf, NoValue, foundAt, handedAt, wholeness};
 
 // An operation. A value lies in the list: where it starts, and its length.
 pub enum Op {
@@ -27,6 +28,15 @@ pub enum Handed {
     End,
 }
 
+// What is handed out at a place where an operation is malformed or cut short. The list is lent for its length: no position of a
+// place within it is too large for a number.
+fn malformed_at(list: &[u8], at: usize) -> Handed
+    requires { ⌜ at < length (now list) ⌝ }
+    ensures { λ r. ⌜ r ≡ foundAt (length (now (list .entry))) at bad ⌝ }
+{
+    Handed::Malformed(wire::COMMAND_HEAD + at)
+}
+
 // The operation at a place whose code, if it is one at all, has a value: a set, or one of the four that are laid out as a set.
 // The code is asked last: octets that are too few are malformed in any case.
 fn valued_at(list: &[u8], at: usize) -> Handed
@@ -34,13 +44,12 @@ fn valued_at(list: &[u8], at: usize) -> Handed
     ensures { λ r. ⌜ r ≡ handedAt (now (list .entry)) at ⌝ }
 {
     let left = list.len() - at;
-    let position = wire::COMMAND_HEAD + at;
     if left < 5 {
-        return Handed::Malformed(position);
+        return malformed_at(list, at);
     }
     let size = octets::get16(list, at + 3);
     if left < 5 + size {
-        return Handed::Malformed(position);
+        return malformed_at(list, at);
     }
     let name = octets::get16(list, at + 1);
     let from = at + 5;
@@ -50,7 +59,7 @@ fn valued_at(list: &[u8], at: usize) -> Handed
         wire::CODE_SELECTIVE_SUBSCRIBE => Op::SelectiveSubscribe(name, from, size),
         wire::CODE_SELECTIVE_UNSUBSCRIBE => Op::SelectiveUnsubscribe(name, from, size),
         wire::CODE_DELETE_ENTRY => Op::DeleteEntry(name, from, size),
-        _ => return Handed::Malformed(position),
+        _ => return malformed_at(list, at),
     };
     Handed::Operation(op, from + size)
 }
@@ -69,7 +78,7 @@ pub fn operation_at(list: &[u8], at: usize) -> Handed
         return Handed::Operation(op, at + 1);
     }
     if left < 3 {
-        return Handed::Malformed(wire::COMMAND_HEAD + at);
+        return malformed_at(list, at);
     }
     let name = octets::get16(list, at + 1);
     let op = match code {

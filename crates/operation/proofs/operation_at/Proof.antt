@@ -1,7 +1,9 @@
 -- `operation::operation_at` meets its contract.
 use native.Mathlib.Omega.{arith}
+use mathlib.Core.Path.{_∙_}
 use mathlib.Core.Logic.{⊎-elim}
 use borrow.Author.Needs.{needs}
+use Rattle.operation.specs.Handing.{foundAt}
 use Rattle.operation.proofs.Found.{past, has-value, capabilities-found, name-cut, read-found, subscribe-found, unsubscribe-found}
 use Rattle.operation.proofs.operation_at.Statement.{statement}
 use Rattle.operation.proofs.operation_at.Tie as tie
@@ -21,11 +23,14 @@ add-t12 c = search needs
 returns-2 : tie.Need-returns-2
 returns-2 c = capabilities-found _ _ (c .before .before .if1 .left) (c .if2 .taken)
 
-add-t13 : tie.Need-add-t13
-add-t13 c = search needs
+malformed-at-requires : tie.Need-malformed-at-requires
+malformed-at-requires c κs = search needs
 
 returns-3 : tie.Need-returns-3
-returns-3 c = name-cut _ _ (c .before .before .before .if1 .left) (c .before .if2 .left) (c .if3 .taken)
+unfolding foundAt
+returns-3 c =
+    let i = c .before in
+    c .malformed-at .ensures ∙ name-cut _ _ (i .before .before .before .if1 .left) (i .before .if2 .left) (i .if3 .taken)
 
 add-get16 : tie.Need-add-get16
 add-get16 c = search needs
@@ -64,7 +69,7 @@ operation-at-spec =
     shared-slice-read-code
     add-t12
     returns-2
-    add-t13
+    malformed-at-requires
     returns-3
     add-get16
     get16-requires

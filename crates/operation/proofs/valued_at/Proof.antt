@@ -1,7 +1,9 @@
 -- `operation::valued_at` meets its contract.
 use native.Mathlib.Omega.{arith}
+use mathlib.Core.Path.{_∙_}
 use mathlib.Core.Logic.{⊎-elim}
 use borrow.Author.Needs.{needs}
+use Rattle.operation.specs.Handing.{foundAt}
 use Rattle.operation.proofs.Found.{length-short, value-short, set-found, selective-read-found, selective-subscribe-found, selective-unsubscribe-found, delete-entry-found, other-found}
 use Rattle.operation.proofs.valued_at.Statement.{statement}
 use Rattle.operation.proofs.valued_at.Tie as tie
@@ -9,13 +11,14 @@ use Rattle.operation.proofs.valued_at.Tie as tie
 sub-left : tie.Need-sub-left
 sub-left c = search needs
 
-add-position : tie.Need-add-position
-add-position c = search needs
+malformed-at-requires : tie.Need-malformed-at-requires
+malformed-at-requires c κs = search needs
 
 returns : tie.Need-returns
+unfolding foundAt
 returns c =
-    let s = c .before .before in
-    length-short _ _ (omega (arith, s .pre .0)) (s .pre .1) (c .if1 .taken)
+    let s = c .before .before .before in
+    c .malformed-at .ensures ∙ length-short _ _ (omega (arith, s .pre .0)) (s .pre .1) (c .before .if1 .taken)
 
 add-get16 : tie.Need-add-get16
 add-get16 c = search needs
@@ -26,11 +29,16 @@ get16-requires c κs = search needs
 add-if2 : tie.Need-add-if2
 add-if2 c = search needs
 
+malformed-at-requires-2 : tie.Need-malformed-at-requires-2
+malformed-at-requires-2 c κs = search needs
+
 returns-2 : tie.Need-returns-2
+unfolding foundAt
 returns-2 c =
-    let s = c .before .before .before .before in
-    let z = c .before .get16 in
-    value-short _ _ (omega (arith, s .pre .0)) (z .result) (s .pre .1) (z .ensures .0) (omega (arith, c .if2 .taken))
+    let i = c .before in
+    let s = i .before .before .before .before in
+    let z = i .before .get16 in
+    c .malformed-at2 .ensures ∙ value-short _ _ (omega (arith, s .pre .0)) (z .result) (s .pre .1) (z .ensures .0) (omega (arith, i .if2 .taken))
 
 add-get16-2 : tie.Need-add-get16-2
 add-get16-2 c = search needs
@@ -44,14 +52,19 @@ add-from c = search needs
 shared-slice-read-match : tie.Need-shared-slice-read-match
 shared-slice-read-match c = search needs
 
-returns-3 : tie.Need-returns-3
-returns-3 c =
-    let s = c .before .before .before .before .before .before .before in
-    let r = c .match .rest in
-    other-found _ _ (omega (arith, s .pre .0)) (s .pre .1) (r .0 .0 .0 .0 .1) (r .0 .0 .0 .1) (r .0 .0 .1) (r .0 .1) (r .1)
+malformed-at-requires-3 : tie.Need-malformed-at-requires-3
+malformed-at-requires-3 c κs = search needs
 
-add-t9 : tie.Need-add-t9
-add-t9 c = search needs
+returns-3 : tie.Need-returns-3
+unfolding foundAt
+returns-3 c =
+    let i = c .before in
+    let s = i .before .before .before .before .before .before .before in
+    let r = i .match .rest in
+    c .malformed-at3 .ensures ∙ other-found _ _ (omega (arith, s .pre .0)) (s .pre .1) (r .0 .0 .0 .0 .1) (r .0 .0 .0 .1) (r .0 .0 .1) (r .0 .1) (r .1)
+
+add-t8 : tie.Need-add-t8
+add-t8 c = search needs
 
 returns-4 : tie.Need-returns-4
 returns-4 c =
@@ -71,16 +84,18 @@ valued-at-spec =
     tie.close
     (tie.spec
     sub-left
-    add-position
+    malformed-at-requires
     returns
     add-get16
     get16-requires
     add-if2
+    malformed-at-requires-2
     returns-2
     add-get16-2
     get16-requires-2
     add-from
     shared-slice-read-match
+    malformed-at-requires-3
     returns-3
-    add-t9
+    add-t8
     returns-4)
