@@ -9,7 +9,8 @@ use Rattle.meaning.specs.Operation.{shape, whole, shaped, more, follow, 
 use Rattle.meaning.specs.Step.{shown, readChecks, readAnswer, block, commits, permitted, setChecks, setAnswer, stored, setMemory, subscribeMemory, unsubscribeMemory, step, answer, after, answers}
 use Rattle.meaning.specs.Reply.{recordOf, gathered, heldOctets, shortOctets, failedOctets, readContents, longOctets, setContents, allNames, element, complete, countsFit}
 use Rattle.meaning.specs.Calls.{call, isCommand, isAcknowledgement, lengthField, operations, opsOf, lengthRight, records, carriedOut, acknowledged, handled, fits, messageChecks, message, localPermitted, differs, localMemory, localChecks, localValue, report, reports, notification, cleared, buildChecks, build, expired, expiryChecks, expiry, makeFresh}
+use Rattle.meaning.specs.Gates.{states, entryAt, gatesOf, gatesChecks, gates, gatesNumber}
 
 unfoldable pub all : Unit {0}
-unfolding at16 at32 be16 part splice flat same blank every below implies firstFailed whenPassed rows rowAt placeIn place listed byController byPort rooms roomAt asNumberFrom asNumber timeOk cutIn entriesOf interval entryOk eachOk listOk intervals ratioOk cycle sumsFrom sumsOf sums joinedBlock baseOf countOf listOf ratioOf formAndFit keeps permits cell room isPresent isSubscribed isPending size present subscribed pending body timer waiting expiries bit flags cellOf roomOf putCell putRoom put store setMarks setTimer entrySound entriesSound fourPresent timerSound sound absent fresh units lowFirst delay lowNumber nanosecondsIn unitsOver shape whole shaped more follow parseIn parse fromBroken brokenIn broken breakOf shown readChecks readAnswer block commits permitted setChecks setAnswer stored setMemory subscribeMemory unsubscribeMemory step answer after answers recordOf gathered heldOctets shortOctets failedOctets readContents longOctets setContents allNames element complete countsFit call isCommand isAcknowledgement lengthField operations opsOf lengthRight records carriedOut acknowledged handled fits messageChecks message localPermitted differs localMemory localChecks localValue report reports notification cleared buildChecks build expired expiryChecks expiry makeFresh
+unfolding at16 at32 be16 part splice flat same blank every below implies firstFailed whenPassed rows rowAt placeIn place listed byController byPort rooms roomAt asNumberFrom asNumber timeOk cutIn entriesOf interval entryOk eachOk listOk intervals ratioOk cycle sumsFrom sumsOf sums joinedBlock baseOf countOf listOf ratioOf formAndFit keeps permits cell room isPresent isSubscribed isPending size present subscribed pending body timer waiting expiries bit flags cellOf roomOf putCell putRoom put store setMarks setTimer entrySound entriesSound fourPresent timerSound sound absent fresh units lowFirst delay lowNumber nanosecondsIn unitsOver shape whole shaped more follow parseIn parse fromBroken brokenIn broken breakOf shown readChecks readAnswer block commits permitted setChecks setAnswer stored setMemory subscribeMemory unsubscribeMemory step answer after answers recordOf gathered heldOctets shortOctets failedOctets readContents longOctets setContents allNames element complete countsFit call isCommand isAcknowledgement lengthField operations opsOf lengthRight records carriedOut acknowledged handled fits messageChecks message localPermitted differs localMemory localChecks localValue report reports notification cleared buildChecks build expired expiryChecks expiry makeFresh states entryAt gatesOf gatesChecks gates gatesNumber
 all = tt

@@ -55,11 +55,11 @@ module _ (b : List ℕ) (n : ℕ) (h : length b ≡ 22 + 7 * n) where
   unfolding countOf
   count-number = number-four (part b 10 4) (length-part b 10 4 (omega arith)) ∙ four-part b 10 4 0 10 (omega arith) (omega arith)
 
-  list-length : length (listOf b) ≡ 7 * n
+  pub list-length : length (listOf b) ≡ 7 * n
   unfolding listOf
   list-length = length-part b 14 (length b - 22) (omega arith) ∙ omega arith
 
-  list-count : length (listOf b) / 7 ≡ n
+  pub list-count : length (listOf b) / 7 ≡ n
   list-count = omega (arith, list-length)
 
   ratio-four : (j : ℕ) → j + 3 < 8 → fourAt (ratioOf b) j ≡ fourAt b (14 + 7 * n + j)
@@ -83,7 +83,7 @@ module _ (b : List ℕ) (n : ℕ) (h : length b ≡ 22 + 7 * n) where
       ∙ ap (λ (k : ℕ). sumOver k (λ i. fourAt (listOf b) (7 * i + 3))) list-count
       ∙ sum-same n _ _ (λ i l. four-part b 14 (length b - 22) (7 * i + 3) (17 + 7 * i) (omega arith) (omega arith))
 
-  block-cycle : cycle (ratioOf b) ≡ fourAt b (14 + 7 * n) * 1000000000 / fourAt b (18 + 7 * n)
+  pub block-cycle : cycle (ratioOf b) ≡ fourAt b (14 + 7 * n) * 1000000000 / fourAt b (18 + 7 * n)
   block-cycle = cycle-spelt (ratioOf b) ∙ rw (ratio-first, ratio-second)
 
 -- ---- the law

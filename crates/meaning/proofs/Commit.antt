@@ -36,7 +36,7 @@ module _ (b c l r : List ℕ) (hb : length b ≡ 10) (hc : length c ≡ 4) (hr :
   unfolding countOf joinedBlock part
   count-joined = rw (drop-at b (c ++ (l ++ r)) 10 hb) (take-at c (l ++ r) 4 hc)
 
-  list-joined : listOf (joinedBlock b c l r) ≡ l
+  pub list-joined : listOf (joinedBlock b c l r) ≡ l
   unfolding listOf joinedBlock part
   list-joined =
       let n : length (b ++ (c ++ (l ++ r))) - 22 ≡ length l =
@@ -44,7 +44,7 @@ module _ (b c l r : List ℕ) (hb : length b ≡ 10) (hc : length c ≡ 4) (hr :
       let e : b ++ (c ++ (l ++ r)) ≡ b ++ c ++ (l ++ r) = sym (append-assoc b c (l ++ r)) in
       rw (n, e, drop-at (b ++ c) (l ++ r) 14 (omega (arith, length-append b c))) (take-at l r (length l) refl)
 
-  ratio-joined : ratioOf (joinedBlock b c l r) ≡ r
+  pub ratio-joined : ratioOf (joinedBlock b c l r) ≡ r
   unfolding ratioOf joinedBlock part
   ratio-joined =
       let n : length (b ++ (c ++ (l ++ r))) - 8 ≡ 14 + length l =

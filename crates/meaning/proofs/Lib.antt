@@ -46,3 +46,7 @@ pub mod Wording
 pub mod Laid
 pub mod Bench
 pub mod Lives
+pub mod Instants
+pub mod Holding
+pub mod Cycles
+pub mod Driven

@@ -10,4 +10,5 @@ pub mod Operation
 pub mod Step
 pub mod Reply
 pub mod Calls
+pub mod Gates
 pub mod Capture

@@ -9,9 +9,9 @@ use lib.ListN.{length, take, drop, length-append, length-drop, take-append-drop}
 use lib.Seq.{take-all, drop-drop}
 use lib.Dec.{eqb, leb}
 use borrow.Author.Tests.{eqb-true, eq-eqb, ne-eqb, leb-true, le-leb, lt-leb}
-use Rattle.meaning.specs.Octets.{octet, at16, be16, splice, every, same}
+use Rattle.meaning.specs.Octets.{octet, at16, be16, part, splice, every, same}
 use Rattle.meaning.specs.Table.{rows, rowAt, adminBaseTime, adminControlListLength, adminControlList, adminCycleTime}
-use Rattle.meaning.specs.Block.{asNumber, timeOk, entriesOf, eachOk, listOk, intervals, ratioOk, cycle, sumsOf, sums, joinedBlock, formAndFit, keeps, permits}
+use Rattle.meaning.specs.Block.{asNumber, timeOk, entriesOf, eachOk, listOk, intervals, ratioOk, cycle, sumsOf, sums, joinedBlock, listOf, ratioOf, formAndFit, keeps, permits}
 use Rattle.meaning.proofs.Lists.{be16-at16}
 use Rattle.meaning.proofs.Sums.{first-sum, second-sum, first-shown, second-shown}
 use Rattle.meaning.proofs.Tests.{and-left, and-right, and-both, every-at, alike, same-true, same-refl}
@@ -148,17 +148,17 @@ module _ (b c l r : List ℕ) (hb : length b ≡ 10) (hc : length c ≡ 4) (hr :
 -- ---- a block cut into its four values
 
 pub split-joined : (b : List ℕ) → 22 ≤ length b
-    → joinedBlock (take 10 b) (take (14 - 10) (drop 10 b)) (take (length b - 8 - 14) (drop 14 b)) (take (length b - (length b - 8)) (drop (length b - 8) b)) ≡ b
-unfolding joinedBlock
+    → joinedBlock (take 10 b) (take (14 - 10) (drop 10 b)) (listOf b) (ratioOf b) ≡ b
+unfolding joinedBlock listOf ratioOf part
 split-joined b h =
     let n = length b in
     let e₁ : 10 + 4 ≡ 14 = refl in
-    let e₂ : 14 + (n - 8 - 14) ≡ n - 8 = omega arith in
-    let last : take (n - (n - 8)) (drop (n - 8) b) ≡ drop (n - 8) b =
-    take-all (n - (n - 8)) (drop (n - 8) b) (simp length-drop (omega arith)) in
-    let d₃ : take (n - 8 - 14) (drop 14 b) ++ drop (n - 8) b ≡ drop 14 b =
-    ap (λ (t : List ℕ). take (n - 8 - 14) (drop 14 b) ++ t) (sym (drop-drop (n - 8 - 14) 14 b ∙ ap (λ (k : ℕ). drop k b) e₂))
-    ∙ take-append-drop (n - 8 - 14) (drop 14 b) in
+    let e₂ : 14 + (n - 22) ≡ n - 8 = omega arith in
+    let last : take 8 (drop (n - 8) b) ≡ drop (n - 8) b =
+    take-all 8 (drop (n - 8) b) (simp length-drop (omega arith)) in
+    let d₃ : take (n - 22) (drop 14 b) ++ drop (n - 8) b ≡ drop 14 b =
+    ap (λ (t : List ℕ). take (n - 22) (drop 14 b) ++ t) (sym (drop-drop (n - 22) 14 b ∙ ap (λ (k : ℕ). drop k b) e₂))
+    ∙ take-append-drop (n - 22) (drop 14 b) in
     let d₂ : take 4 (drop 10 b) ++ drop 14 b ≡ drop 10 b =
     ap (λ (t : List ℕ). take 4 (drop 10 b) ++ t) (sym (drop-drop 4 10 b)) ∙ take-append-drop 4 (drop 10 b) in
     rw (last, d₃, d₂) (take-append-drop 10 b)

@@ -8,7 +8,7 @@ ghost use lib.ListN.{length};
 ghost use lib.Dec.{eqb};
 ghost use Rattle.meaning.specs.Octets.{be16, splice, same};
 ghost use Rattle.meaning.specs.Table.{rowAt, adminControlListLength, adminControlList, adminCycleTime};
-ghost use Rattle.meaning.specs.Block.{sumsFrom, sumsOf, sums, joinedBlock, formAndFit, keeps, permits};
+ghost use Rattle.meaning.specs.Block.{sumsFrom, sumsOf, sums, joinedBlock, listOf, ratioOf, formAndFit, keeps, permits};
 ghost use Rattle.schedule.specs.Rules.{ruleOf, asked, fitTogether};
 
 // The rules of the table's rows.
@@ -99,19 +99,33 @@ fn values_fit(base: &[u8], count: &[u8], list: &[u8], ratio: &[u8]) -> bool
     values::time_ok(base) & (held & (whole & (w.ok & values::fits_cycle(w.sum, ratio))))
 }
 
+// The list of a block, and its cycle.
+pub fn list_of(b: &[u8]) -> &[u8]
+    requires { ⌜ 22 ≤ length (now b) ⌝ }
+    ensures { λ r. ⌜ now r ≡ listOf (now (b .entry)) ⌝ }
+{
+    &b[COUNT_END..b.len() - RATIO_LENGTH]
+}
+
+pub fn ratio_of(b: &[u8]) -> &[u8]
+    requires { ⌜ 22 ≤ length (now b) ⌝ }
+    ensures { λ r. ⌜ (now r ≡ ratioOf (now (b .entry))) × (length (now r) ≡ 8) ⌝ }
+{
+    &b[b.len() - RATIO_LENGTH..]
+}
+
 // Form and fit of a block of any length.
 pub fn form_and_fit(b: &[u8]) -> bool
     ensures { λ r. ⌜ r ≡ formAndFit (now (b .entry)) ⌝ }
 {
-    let n = b.len();
-    if n < BLOCK_REST {
+    if b.len() < BLOCK_REST {
         return false;
     }
     values_fit(
         &b[0..BASE_LENGTH],
         &b[BASE_LENGTH..COUNT_END],
-        &b[COUNT_END..n - RATIO_LENGTH],
-        &b[n - RATIO_LENGTH..n],
+        list_of(b),
+        ratio_of(b),
     )
 }
 

@@ -12,44 +12,46 @@ use borrow.Author.Tests.{leb-true, eqb-true, eq-eqb}
 use Rattle.meaning.specs.Octets.{at16}
 use Rattle.meaning.specs.Delay.{delay}
 use Rattle.meaning.specs.Calls.{Outcome, makeFresh, message, localValue, build, expiry}
+use Rattle.meaning.specs.Gates.{gates}
 use Rattle.meaning.proofs.Refused.{RoomAfter, message-room, build-room, localValue-room, expiry-room, makeFresh-room}
 use Rattle.meaning.proofs.Positions.{position-most, localValue-nowhere, build-nowhere, expiry-nowhere, makeFresh-nowhere}
 use Rattle.endpoint.specs.Outcomes.{Gives}
 use Rattle.endpoint.specs.declared.Outcome as answers
 use Rattle.text.specs.Lines.{octetsLine, lentLine}
-use Rattle.script.specs.Instructions.{bodyRight, anew, nanoseconds, printed, callOf, roomFor, alone, called, answered, effect}
+use Rattle.script.specs.Instructions.{bodyRight, anew, nanoseconds, instant, gatesLine, printed, callOf, roomFor, alone, called, answered, effect}
 
 -- ---- bodies
 
-pub unknown : (code n : ℕ) → 10 ≤ code → bodyRight code n ≡ false
+pub unknown : (code n : ℕ) → 11 ≤ code → bodyRight code n ≡ false
 unfolding bodyRight
 unknown code n h =
-    let tests : List Bool = eqb n 0 ∷ leb 2 n ∷ leb 2 n ∷ eqb n 2 ∷ eqb n 0 ∷ leb n 2200 ∷ eqb n 0 ∷ eqb n 0 ∷ eqb n 8 ∷ leb 2 n ∷ [] in
+    let tests : List Bool = eqb n 0 ∷ leb 2 n ∷ leb 2 n ∷ eqb n 2 ∷ eqb n 0 ∷ leb n 2200 ∷ eqb n 0 ∷ eqb n 0 ∷ eqb n 8 ∷ leb 2 n ∷ eqb n 8 ∷ [] in
     List·getD-eq-default tests false h
 
 beyond : (k code : ℕ) → k ≤ code → (code ≡ k → ⊥) → k + 1 ≤ code
 beyond k code h f = omega arith
 
--- a code that is none of the ten
-pub other : (code n : ℕ) → (((((((((Unit {0} × (code ≡ 0 → ⊥)) × (code ≡ 1 → ⊥)) × (code ≡ 2 → ⊥)) × (code ≡ 3 → ⊥)) × (code ≡ 4 → ⊥)) × (code ≡ 5 → ⊥)) × (code ≡ 6 → ⊥)) × (code ≡ 7 → ⊥)) × (code ≡ 8 → ⊥)) × (code ≡ 9 → ⊥) → bodyRight code n ≡ false
+-- a code that is none of the eleven
+pub other : (code n : ℕ) → ((((((((((Unit {0} × (code ≡ 0 → ⊥)) × (code ≡ 1 → ⊥)) × (code ≡ 2 → ⊥)) × (code ≡ 3 → ⊥)) × (code ≡ 4 → ⊥)) × (code ≡ 5 → ⊥)) × (code ≡ 6 → ⊥)) × (code ≡ 7 → ⊥)) × (code ≡ 8 → ⊥)) × (code ≡ 9 → ⊥)) × (code ≡ 10 → ⊥) → bodyRight code n ≡ false
 other code n r =
     let h0 : 0 ≤ code = omega arith in
-    let h1 = beyond 0 code h0 (r .0 .0 .0 .0 .0 .0 .0 .0 .0 .1) in
-    let h2 = beyond 1 code h1 (r .0 .0 .0 .0 .0 .0 .0 .0 .1) in
-    let h3 = beyond 2 code h2 (r .0 .0 .0 .0 .0 .0 .0 .1) in
-    let h4 = beyond 3 code h3 (r .0 .0 .0 .0 .0 .0 .1) in
-    let h5 = beyond 4 code h4 (r .0 .0 .0 .0 .0 .1) in
-    let h6 = beyond 5 code h5 (r .0 .0 .0 .0 .1) in
-    let h7 = beyond 6 code h6 (r .0 .0 .0 .1) in
-    let h8 = beyond 7 code h7 (r .0 .0 .1) in
-    let h9 = beyond 8 code h8 (r .0 .1) in
-    let h10 = beyond 9 code h9 (r .1) in
-    unknown code n h10
+    let h1 = beyond 0 code h0 (r .0 .0 .0 .0 .0 .0 .0 .0 .0 .0 .1) in
+    let h2 = beyond 1 code h1 (r .0 .0 .0 .0 .0 .0 .0 .0 .0 .1) in
+    let h3 = beyond 2 code h2 (r .0 .0 .0 .0 .0 .0 .0 .0 .1) in
+    let h4 = beyond 3 code h3 (r .0 .0 .0 .0 .0 .0 .0 .1) in
+    let h5 = beyond 4 code h4 (r .0 .0 .0 .0 .0 .0 .1) in
+    let h6 = beyond 5 code h5 (r .0 .0 .0 .0 .0 .1) in
+    let h7 = beyond 6 code h6 (r .0 .0 .0 .0 .1) in
+    let h8 = beyond 7 code h7 (r .0 .0 .0 .1) in
+    let h9 = beyond 8 code h8 (r .0 .0 .1) in
+    let h10 = beyond 9 code h9 (r .0 .1) in
+    let h11 = beyond 10 code h10 (r .1) in
+    unknown code n h11
 
-pub known : (code n : ℕ) → bodyRight code n ≡ true → code < 10
-known code n e = at (decLe 10 code)
+pub known : (code n : ℕ) → bodyRight code n ≡ true → code < 11
+known code n e = at (decLe 11 code)
   where
-    at : Dec (10 ≤ code) → code < 10
+    at : Dec (11 ≤ code) → code < 11
     at (yes h) = absurd (false≢true (sym (unknown code n h) ∙ e))
     at (no h) = omega arith
 
@@ -76,6 +78,10 @@ module _ {code n : ℕ} (r : bodyRight code n ≡ true) where
   unfolding bodyRight
   delay-body e = eqb-true n 8 (rw e at r)
 
+  pub gates-body : code ≡ 10 → n ≡ 8
+  unfolding bodyRight
+  gates-body e = eqb-true n 8 (rw e at r)
+
 nine-right : (n : ℕ) → bodyRight 9 n ≡ true → bodyRight 1 n ≡ true
 unfolding bodyRight
 nine-right n r = r
@@ -98,6 +104,10 @@ module _ {code : ℕ} (body m room : List ℕ) where
   pub delay-row : code ≡ 8 → effect code body m room ≡ printed (octetsLine (delay (nanoseconds body))) m room
   unfolding effect
   delay-row e = rw e
+
+  pub gates-row : code ≡ 10 → effect code body m room ≡ printed (gatesLine (gates m (instant body))) m room
+  unfolding effect
+  gates-row e = rw e
 
 -- codes under 5, and 9, are calls
 by-call : (code : ℕ) (body m room : List ℕ) → (code < 5) ⊎ (code ≡ 9)

@@ -1,4 +1,5 @@
 -- Laws of instructions: their codes and calls, and what is left in the arrays.
 pub mod Codes
+pub mod Instants
 pub mod Lend
 pub mod Told

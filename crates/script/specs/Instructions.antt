@@ -1,13 +1,15 @@
 -- The instructions of a script: the bodies that each code may have, the line that it prints, and the memory and the room that it leaves.
-use Prim.Native.Nat.{ℕ, _+_, _*_}
+use Prim.Native.Nat.{ℕ, _+_, _-_, _*_}
 use mathlib.Core.Bool.{Bool, false, cond}
 use mathlib.Core.List.{List, [], _∷_}
 use lib.ListN.{length, getD, drop, replicate}
 use lib.Dec.{eqb, leb, ltb}
+use lib.IntN.{ℤ, pos, negsuc}
 use Rattle.meaning.specs.Octets.{at16, at32}
 use Rattle.meaning.specs.Delay.{delay}
 use Rattle.meaning.specs.Calls.{Outcome, makeFresh, message, localValue, build, expiry}
-use Rattle.text.specs.Lines.{octetsLine, lentLine}
+use Rattle.meaning.specs.Gates.{Gates, refused, notStarted, opens, gates}
+use Rattle.text.specs.Lines.{octetsLine, line, lentLine, openLine}
 use Rattle.answers.specs.Answers.{lineOf, fullOf}
 
 -- the length of a body, by the instruction's code; no other code is known
@@ -24,6 +26,7 @@ bodyRight code n =
     ∷ eqb n 0  -- 07 show the room of the last message or notification
     ∷ eqb n 8  -- 08 delay conversion: nanoseconds (8)
     ∷ leb 2 n  -- 09 message, told in full: room length (2), message
+    ∷ eqb n 8  -- 0A which gates are open: instant (8)
     ∷ []) code false
 
 -- a room made anew: at most 8,192 octets, each A5
@@ -36,6 +39,18 @@ anew asked = replicate (roomLength asked) 0xA5
 -- the number that eight octets spell, the high octet first
 unfoldable pub nanoseconds : List ℕ → ℕ
 nanoseconds s = at32 s 0 * 4294967296 + at32 s 4
+
+-- the instant that they spell, in two's complement (RULES 17.20)
+unfoldable pub instant : List ℕ → ℤ
+instant s =
+    let n = nanoseconds s in
+    cond (ltb n 0x8000000000000000) (pos n) (negsuc (0xFFFFFFFFFFFFFFFF - n))
+
+-- the line of the gates (RULES 17.21)
+unfoldable pub gatesLine : Gates → List ℕ
+gatesLine (refused n) = line n []
+gatesLine notStarted = line 0 []
+gatesLine (opens s k d) = openLine s k d
 
 -- what an instruction prints, and the memory and the room that it leaves
 pub record Effect : Type 0 where
@@ -100,6 +115,7 @@ effect code body m room =
     ∷ printed (octetsLine room) m room
     ∷ printed (octetsLine (delay (nanoseconds body))) m room
     ∷ call
+    ∷ printed (gatesLine (gates m (instant body))) m room
     ∷ [])
     code
     (printed [] m room)

@@ -5,11 +5,14 @@ ghost use mathlib.Core.Path.{_≡_};
 ghost use mathlib.Core.Bool.{true};
 ghost use lib.ListN.{length, take};
 ghost use Rattle.meaning.specs.Delay.{delay};
+ghost use Rattle.meaning.specs.Gates.{gates};
 ghost use Rattle.octets.specs.Writing.{Wrote};
 ghost use Rattle.endpoint.specs.Outcomes.{lengthOf, positionOf, Gives};
+ghost use Rattle.gates.specs.Answers.{answerOf};
 ghost use Rattle.text.specs.Lines.{octetsLine};
-ghost use Rattle.script.specs.Instructions.{bodyRight, roomLength, anew, roomFor, callOf, called, nanoseconds};
+ghost use Rattle.script.specs.Instructions.{bodyRight, roomLength, anew, roomFor, callOf, called, nanoseconds, instant, gatesLine};
 ghost use Rattle.script.specs.Takes.{toldAnswer, Ready, Takes};
+use gates::Gates;
 
 // Most octets that can be lent as memory.
 pub const MOST_LENT: usize = 2200;
@@ -17,6 +20,8 @@ pub const MOST_LENT: usize = 2200;
 pub const MOST_ROOM: usize = 8192;
 // What the high four octets of eight are worth.
 const HIGH: u64 = 1 << 32;
+// The first number of 64 bits that stands for one below 0.
+const SIGN: u64 = 1 << 63;
 // What a room made anew holds.
 const ROOM_FILL: u8 = 0xA5;
 // The codes of a message, and of one that is told in full.
@@ -51,6 +56,7 @@ fn body_right(code: u8, n: usize) -> bool
         7 => n == 0,
         8 => n == 8,
         9 => 2 <= n,
+        10 => n == 8,
         _ => false,
     }
 }
@@ -131,14 +137,52 @@ fn write_answer(
     answers::write_outcome(out, at, outcome, room)
 }
 
+// The number that eight octets spell.
+fn nanoseconds(body: &[u8]) -> u64
+    requires { ⌜ length (now body) ≡ 8 ⌝ }
+    ensures { λ r. ⌜ r ≡ nanoseconds (now (body .entry)) ⌝ }
+{
+    octets::get32(body, 0) * HIGH + octets::get32(body, 4)
+}
+
 // The line of a delay, from its nanoseconds.
 fn show_delay(body: &[u8], out: &mut [u8], at: usize) -> usize
     requires { ⌜ (length (now body) ≡ 8) × (at + 18 ≤ length (now out)) ⌝ }
     ensures { λ r. ⌜ Wrote (now (out .entry)) at (octetsLine (delay (nanoseconds (now (body .entry))))) r (now (out .exit)) ⌝ }
 {
-    let time = octets::get32(body, 0) * HIGH + octets::get32(body, 4);
-    let stored = endpoint::delay_octets(delay::Nanoseconds(time));
+    let stored = endpoint::delay_octets(delay::Nanoseconds(nanoseconds(body)));
     text::write_octets(out, at, &stored)
+}
+
+// The instant that eight octets spell. A cast takes what fits alone, so a number below 0 is counted back from -1.
+fn instant(body: &[u8]) -> i64
+    requires { ⌜ length (now body) ≡ 8 ⌝ }
+    ensures { λ r. ⌜ r ≡ instant (now (body .entry)) ⌝ }
+{
+    let n = nanoseconds(body);
+    if n < SIGN {
+        return n as i64;
+    }
+    -1 - ((u64::MAX - n) as i64)
+}
+
+// The line of the gates.
+fn write_gates(out: &mut [u8], at: usize, answer: Gates) -> usize
+    requires { ⌜ at + 50 ≤ length (now out) ⌝ }
+    ensures { λ r. ⌜ Wrote (now (out .entry)) at (gatesLine (answerOf answer)) r (now (out .exit)) ⌝ }
+{
+    let Gates::Open(states, entry, nanoseconds) = answer else {
+        return text::write_line(out, at, gates::number(answer), b"");
+    };
+    text::write_open_line(out, at, states, entry, nanoseconds)
+}
+
+// The line of the gates at an instant.
+fn show_gates(memory: &[u8], body: &[u8], out: &mut [u8], at: usize) -> usize
+    requires { ⌜ (length (now body) ≡ 8) × (at + 50 ≤ length (now out)) ⌝ }
+    ensures { λ r. ⌜ Wrote (now (out .entry)) at (gatesLine (gates (now (memory .entry)) (instant (now (body .entry))))) r (now (out .exit)) ⌝ }
+{
+    write_gates(out, at, gates::gates_at(memory, instant(body)))
 }
 
 // The instructions that are no calls over memory.
@@ -151,7 +195,7 @@ fn take_other(
     out: &mut [u8],
     at: usize,
 ) -> Took
-    requires { ⌜ Ready (now memory) (now room) lent (now out) at × (bodyRight code (length (now body)) ≡ true) × (5 ≤ code) × (code < 9) ⌝ }
+    requires { ⌜ Ready (now memory) (now room) lent (now out) at × (bodyRight code (length (now body)) ≡ true) × (5 ≤ callOf code) ⌝ }
     ensures { λ r. ⌜ Takes code (now (body .entry)) (now (memory .entry)) (now (room .entry)) lent (now (out .entry)) at r (now (memory .exit)) (now (room .entry)) (now (out .exit)) ⌝ }
 {
     let m = lent.memory;
@@ -164,7 +208,8 @@ fn take_other(
         }
         6 => Took::Line(text::write_octets(out, at, &memory[..m]), lent),
         7 => Took::Line(text::write_octets(out, at, &room[..n]), lent),
-        _ => Took::Line(show_delay(body, out, at), lent),
+        8 => Took::Line(show_delay(body, out, at), lent),
+        _ => Took::Line(show_gates(&memory[..m], body, out, at), lent),
     }
 }
 

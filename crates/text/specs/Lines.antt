@@ -1,5 +1,5 @@
 -- Lines of text: numbers in decimal, octets in lower-case hexadecimal or `-` for none, a newline at the end.
-use Prim.Native.Nat.{ℕ, _+_, _/_, _%_}
+use Prim.Native.Nat.{ℕ, zero, suc, _+_, _/_, _%_}
 use mathlib.Core.Bool.{cond}
 use mathlib.Core.List.{List, [], _∷_, _++_}
 use lib.Dec.{ltb}
@@ -44,3 +44,24 @@ field n = longDecimal n ++ (32 ∷ [])
 -- a line told in full: a number, a position, octets
 unfoldable pub fullLine : ℕ → ℕ → List ℕ → List ℕ
 fullLine n p s = field n ++ (field p ++ octetsLine s)
+
+-- a number without a leading zero, with k digits at most before its last
+unfoldable pub digitsIn : ℕ → ℕ → List ℕ
+digitsIn zero n = digit n ∷ []
+digitsIn (suc k) n = cond (ltb n 10) (digit n ∷ []) (digitsIn k (n / 10) ++ (digit (n % 10) ∷ []))
+
+-- a number of 64 bits, which has 20 digits at most
+unfoldable pub wideDecimal : ℕ → List ℕ
+wideDecimal n = digitsIn 19 n
+
+-- it and the character behind it
+unfoldable pub wideField : ℕ → ℕ → List ℕ
+wideField n c = wideDecimal n ++ (c ∷ [])
+
+-- an octet as two digits, and a space
+unfoldable pub octetField : ℕ → List ℕ
+octetField x = hex (x ∷ []) ++ (32 ∷ [])
+
+-- the line of open gates: 0, the gate states, the entry's number, the nanoseconds
+unfoldable pub openLine : ℕ → ℕ → ℕ → List ℕ
+openLine s k d = field 0 ++ (octetField s ++ (wideField k 32 ++ wideField d 10))

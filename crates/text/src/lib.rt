@@ -4,7 +4,7 @@ ghost use Prim.Native.Nat.{_+_, _≤_, _<_};
 ghost use mathlib.Core.Path.{_≡_};
 ghost use lib.ListN.{length};
 ghost use Rattle.octets.specs.Writing.{Wrote};
-ghost use Rattle.text.specs.Lines.{digit as Lines·digit, hex, decimal, shownOctets, octetsLine, line, longDecimal, lentLine, field, fullLine};
+ghost use Rattle.text.specs.Lines.{digit as Lines·digit, hex, decimal, shownOctets, octetsLine, line, longDecimal, lentLine, field, fullLine, wideDecimal, wideField, octetField, openLine};
 
 // The character of a digit: 39 more for a letter, taken from all bits of an octet or from none. With a quotient by 10 or a
 // test, LLVM puts branches into the loop over it.
@@ -127,4 +127,51 @@ pub fn write_full_line(
     let second = write_field(out, at, number);
     let third = write_field(out, second, position);
     write_octets(out, third, reply)
+}
+
+// A number of 64 bits.
+fn write_wide_decimal(out: &mut [u8], at: usize, number: u64) -> usize
+    requires { ⌜ at + 20 ≤ length (now out) ⌝ }
+    ensures { λ r. ⌜ Wrote (now (out .entry)) at (wideDecimal number) r (now (out .exit)) ⌝ }
+{
+    let mut digits = [0u8; 20];
+    let n = io::decimal(number, &mut digits);
+    octets::append(out, at, &digits[..n])
+}
+
+// It and the character behind it.
+fn write_wide_field(out: &mut [u8], at: usize, number: u64, after: u8) -> usize
+    requires { ⌜ at + 21 ≤ length (now out) ⌝ }
+    ensures { λ r. ⌜ Wrote (now (out .entry)) at (wideField number after) r (now (out .exit)) ⌝ }
+{
+    let end = write_wide_decimal(out, at, number);
+    out[end] = after;
+    end + 1
+}
+
+// An octet as two digits, and a space.
+fn write_octet_field(out: &mut [u8], at: usize, octet: u8) -> usize
+    requires { ⌜ at + 3 ≤ length (now out) ⌝ }
+    ensures { λ r. ⌜ Wrote (now (out .entry)) at (octetField octet) r (now (out .exit)) ⌝ }
+{
+    let space = write_hex(out, at, &[octet]);
+    out[space] = b' ';
+    space + 1
+}
+
+// The line of open gates: their states, the entry's number, the nanoseconds to the next change.
+pub fn write_open_line(
+    out: &mut [u8],
+    at: usize,
+    states: u8,
+    entry: usize,
+    nanoseconds: u64,
+) -> usize
+    requires { ⌜ at + 50 ≤ length (now out) ⌝ }
+    ensures { λ r. ⌜ Wrote (now (out .entry)) at (openLine states entry nanoseconds) r (now (out .exit)) ⌝ }
+{
+    let second = write_field(out, at, 0);
+    let third = write_octet_field(out, second, states);
+    let fourth = write_wide_field(out, third, entry as u64, b' ');
+    write_wide_field(out, fourth, nanoseconds, b'\n')
 }

@@ -17,8 +17,10 @@ pub const LIST_MOST: usize = ENTRY_LENGTH * ENTRIES_MOST;
 // Octets of two entries, which a walk takes at once.
 const PAIR_LENGTH: usize = 2 * ENTRY_LENGTH;
 
-// Where the interval stands in an entry.
-const INTERVAL_AT: usize = 3;
+// Where the gate states and the interval stand in an entry.
+pub const STATES_AT: usize = 2;
+
+pub const INTERVAL_AT: usize = 3;
 
 // The largest operation of an entry, and the octet that follows it.
 const OPERATION_MOST: u8 = 2;
@@ -71,15 +73,23 @@ pub fn ratio_ok(v: &[u8]) -> bool
     1 <= octets::get32(v, 4)
 }
 
+// A cycle in whole nanoseconds, the remainder dropped; its denominator is not 0.
+pub fn cycle(v: &[u8]) -> u64
+    requires { ⌜ (length (now v) ≡ 8) × (ratioOk (now v) ≡ true) ⌝ }
+    ensures { λ r. ⌜ r ≡ cycle (now (v .entry)) ⌝ }
+{
+    let numerator = octets::get32(v, 0);
+    let denominator = octets::get32(v, 4);
+    numerator * SECOND / denominator
+}
+
 // Whether so many nanoseconds fit a cycle whose denominator is not 0. The quotient decides: a product with the denominator
 // would pass 64 bits.
 pub fn fits_cycle(sum: u64, v: &[u8]) -> bool
     requires { ⌜ (length (now v) ≡ 8) × (ratioOk (now v) ≡ true) ⌝ }
     ensures { λ r. ⌜ r ≡ leb sum (cycle (now (v .entry))) ⌝ }
 {
-    let numerator = octets::get32(v, 0);
-    let denominator = octets::get32(v, 4);
-    sum <= numerator * SECOND / denominator
+    sum <= cycle(v)
 }
 
 // One entry of a control list and its interval: what the entry has to hold (RULES 4.22 to 4.25).

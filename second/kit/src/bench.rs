@@ -1,6 +1,6 @@
 //! A bench that watches every lent octet: what a call may not touch, it has not touched.
 
-use port::Answer;
+use port::{Answer, Gates};
 
 use crate::messages::command;
 
@@ -79,6 +79,24 @@ impl Bench {
     /// An expiry.
     pub fn expire(&mut self) -> u8 {
         self.watched(0, |memory, _| port::take_expiry(memory)).0
+    }
+
+    /// What is told of the gates at an instant: the number, and with it, where an entry is told, its
+    /// states, its number and the nanoseconds. Asked twice, the answer is the same.
+    pub fn gates(&self, instant: i64) -> (u8, Option<(u8, usize, u64)>) {
+        let before = self.memory.clone();
+        let gates = port::gates(&self.memory, instant);
+        assert_eq!(gates, port::gates(&self.memory, instant));
+        assert!(self.memory == before, "memory changed at instant {instant}");
+        let told = match gates {
+            Gates::Refused(_) | Gates::NotStarted => None,
+            Gates::Open {
+                states,
+                entry,
+                nanoseconds,
+            } => Some((states, entry, nanoseconds.0)),
+        };
+        (gates.number() as u8, told)
     }
 
     /// Whether the endpoint finds the memory sound; only number 1 tells, and it changes nothing.

@@ -68,9 +68,16 @@ fn named(code: u8, name: u16) -> Vec<u8> {
 
 /// A list of equal entries with the given interval.
 pub fn list(count: usize, interval: u32) -> Vec<u8> {
-    let mut entry = vec![0, 5, 0xFF];
-    entry.extend(interval.to_be_bytes());
-    entry.repeat(count)
+    entries(&[(0xFF, interval)]).repeat(count)
+}
+
+/// A list of entries with the given gate states and intervals.
+pub fn entries(told: &[(u8, u32)]) -> Vec<u8> {
+    let entry = |(states, interval): &(u8, u32)| {
+        let [a, b, c, d] = interval.to_be_bytes();
+        [0, 5, *states, a, b, c, d]
+    };
+    told.iter().flat_map(entry).collect()
 }
 
 /// The two sums over octets, one octet after another.
@@ -90,9 +97,13 @@ pub fn sums(block: &[u8]) -> Vec<u8> {
 
 /// The four values of a schedule of equal entries, with their sums: 0004 to 0007, then 8001.
 pub fn schedule(count: usize, interval: u32, cycle: [u32; 2]) -> [(u16, Vec<u8>); 5] {
+    schedule_of(list(count, interval), cycle)
+}
+
+/// The four values of a schedule of any list, with their sums.
+pub fn schedule_of(list: Vec<u8>, cycle: [u32; 2]) -> [(u16, Vec<u8>); 5] {
     let base_time = vec![0; 10];
-    let length = (count as u32).to_be_bytes().to_vec();
-    let list = list(count, interval);
+    let length = (list.len() as u32 / 7).to_be_bytes().to_vec();
     let cycle = [cycle[0].to_be_bytes(), cycle[1].to_be_bytes()].concat();
     let block = [&base_time[..], &length, &list, &cycle].concat();
     let sums = sums(&block);

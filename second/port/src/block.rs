@@ -55,7 +55,8 @@ pub fn is_list(list: &[u8]) -> bool {
     })
 }
 
-fn interval(entry: &[u8]) -> u32 {
+/// The interval of a list entry in nanoseconds.
+pub fn interval(entry: &[u8]) -> u32 {
     last_four(entry).unwrap_or(0)
 }
 
@@ -67,7 +68,7 @@ fn list_nanoseconds(list: &[u8]) -> u64 {
 
 /// The cycle in nanoseconds, rounded down. Comparing with this quotient decides the same as
 /// comparing products, which could pass 64 bits; the numerator's product cannot.
-fn cycle_nanoseconds(cycle_time: &[u8]) -> Option<u64> {
+pub fn cycle_nanoseconds(cycle_time: &[u8]) -> Option<u64> {
     let numerator = u32::from_be_bytes(*cycle_time.first_chunk()?);
     let denominator = last_four(cycle_time)?;
     (u64::from(numerator) * 1_000_000_000).checked_div(u64::from(denominator))

@@ -47,6 +47,8 @@ pub enum Number {
     NotCaptured = 13,
     /// A captured message with an element or a record cut short, or with octets left over in one.
     CutShort = 14,
+    /// No block runs whose gates could be told (RULES 22.3).
+    NothingRunning = 15,
     /// The notification is to be sent again.
     SendAgain = 20,
     /// The notification is given up.

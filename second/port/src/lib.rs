@@ -1,6 +1,6 @@
-//! Bightmoor's second port management endpoint: five calls over one port's lent memory, the delay
-//! conversion, and a reader of captured messages. It needs no operating system, no heap and no other
-//! crate.
+//! Bightmoor's second port management endpoint: five calls over one port's lent memory, one that tells
+//! which gates are open, the delay conversion, and a reader of captured messages. It needs no operating
+//! system, no heap and no other crate.
 #![no_std]
 #![forbid(unsafe_code)]
 #![warn(missing_docs)]
@@ -9,6 +9,7 @@ mod block;
 mod capture;
 mod draft;
 mod endpoint;
+mod gates;
 mod memory;
 mod octets;
 mod operation;
@@ -24,5 +25,6 @@ pub use delay::{DelayUnits, Nanoseconds};
 pub use endpoint::{
     build_notification, make_fresh, take_expiry, take_local_value, take_message, Answer, Number,
 };
+pub use gates::{gates, Gates};
 pub use memory::{value_in, FRESH, PENDING, PRESENT, SUBSCRIBED};
 pub use reply::Cause;

@@ -139,6 +139,12 @@ impl<'a> Port<'a> {
     }
 }
 
+/// Lent memory that is to be read alone, if it has 2,100 octets and is sound.
+pub fn sound(memory: &[u8]) -> Option<&[u8; SIZE]> {
+    let octets = memory.try_into().ok()?;
+    is_sound(octets).then_some(octets)
+}
+
 /// The value of an entry of sound memory, of which the last rooms may be missing.
 pub fn value_in(octets: &[u8], index: usize) -> Option<&[u8]> {
     let entry = Entry::of(octets, index);

@@ -3,8 +3,8 @@
 use std::io::{self, Read, Write};
 
 use port::{
-    build_notification, make_fresh, take_expiry, take_local_value, take_message, Answer,
-    DelayUnits, Nanoseconds, FRESH,
+    build_notification, gates, make_fresh, take_expiry, take_local_value, take_message, Answer,
+    DelayUnits, Gates, Nanoseconds, FRESH,
 };
 
 use crate::stream::{Lines, Piece, Pieces};
@@ -31,6 +31,8 @@ pub mod code {
     pub const DELAY: u8 = 0x08;
     /// Message, as 01, with its position in the line: room length (2), message (RULES 17.18).
     pub const MESSAGE_IN_FULL: u8 = 0x09;
+    /// Which gates are open: instant (8), in two's complement (RULES 17.19 and 17.20).
+    pub const GATES: u8 = 0x0A;
 }
 
 /// An instruction's head: code, length (2).
@@ -131,9 +133,30 @@ impl<W: Write> Rig<W> {
                 let delay = Nanoseconds(u64::from_be_bytes(octets));
                 self.lines.octets(&DelayUnits::from(delay).octets())?;
             }
+            (code::GATES, instant) => {
+                let Ok(octets) = instant.try_into() else {
+                    return Ok(false);
+                };
+                self.gates(gates(&self.memory, i64::from_be_bytes(octets)))?;
+            }
             _ => return Ok(false),
         }
         Ok(true)
+    }
+
+    /// The line of what gates are open (RULES 17.21).
+    fn gates(&mut self, gates: Gates) -> io::Result<()> {
+        let number = gates.number() as u8;
+        let Gates::Open {
+            states,
+            entry,
+            nanoseconds: Nanoseconds(nanoseconds),
+        } = gates
+        else {
+            return self.lines.numbered(number, &[]);
+        };
+        let line = format_args!("{number} {states:02x} {entry} {nanoseconds}");
+        self.lines.formatted(line)
     }
 
     fn make_room(&mut self, length: [u8; 2]) {

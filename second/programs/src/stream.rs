@@ -1,6 +1,7 @@
 //! Input and output in blocks: pieces that tell their own length, blocks as they come, and lines with
 //! hexadecimal.
 
+use std::fmt::Arguments;
 use std::io::{self, ErrorKind, Read, Write};
 
 /// Room for the longest piece and for as much again.
@@ -125,6 +126,12 @@ impl<W: Write> Lines<W> {
     /// A line of the given text.
     pub fn text(&mut self, text: &str) -> io::Result<()> {
         self.part(text);
+        self.end_line()
+    }
+
+    /// A line of the given text, which is put together in its place.
+    pub fn formatted(&mut self, text: Arguments) -> io::Result<()> {
+        self.due.write_fmt(text)?;
         self.end_line()
     }
 

@@ -32,29 +32,11 @@ part-values-fit-start-2 c = search needs
 part-values-fit-end-2 : tie.Need-part-values-fit-end-2
 part-values-fit-end-2 c = search needs
 
-sub-values-fit-3 : tie.Need-sub-values-fit-3
-sub-values-fit-3 c = search needs
+list-of-requires : tie.Need-list-of-requires
+list-of-requires c κs = search needs
 
-sub-values-fit-4 : tie.Need-sub-values-fit-4
-sub-values-fit-4 c = search needs
-
-part-values-fit-start-3 : tie.Need-part-values-fit-start-3
-part-values-fit-start-3 c = search needs
-
-part-values-fit-end-3 : tie.Need-part-values-fit-end-3
-part-values-fit-end-3 c = search needs
-
-sub-values-fit-5 : tie.Need-sub-values-fit-5
-sub-values-fit-5 c = search needs
-
-sub-values-fit-6 : tie.Need-sub-values-fit-6
-sub-values-fit-6 c = search needs
-
-part-values-fit-start-4 : tie.Need-part-values-fit-start-4
-part-values-fit-start-4 c = search needs
-
-part-values-fit-end-4 : tie.Need-part-values-fit-end-4
-part-values-fit-end-4 c = search needs
+ratio-of-requires : tie.Need-ratio-of-requires
+ratio-of-requires c κs = search needs
 
 values-fit-requires : tie.Need-values-fit-requires
 values-fit-requires c κs = search needs
@@ -62,7 +44,7 @@ values-fit-requires c κs = search needs
 returns-2 : tie.Need-returns-2
 returns-2 c =
     let s = c .before .before .before .before .before .before .before in
-    c .values-fit .ensures ∙ ap formAndFit (split-joined (s .args .b .now) (c .before .before .before .before .before .if1 .left))
+    c .values-fit .ensures ∙ rw (c .before .ratio-of .ensures .0, c .before .before .list-of .ensures) (ap formAndFit (split-joined (s .args .b .now) (c .before .before .before .before .before .if1 .left)))
 
 pub form-and-fit-spec : {M : Type 1} → statement M
 form-and-fit-spec =
@@ -75,13 +57,7 @@ form-and-fit-spec =
     sub-values-fit-2
     part-values-fit-start-2
     part-values-fit-end-2
-    sub-values-fit-3
-    sub-values-fit-4
-    part-values-fit-start-3
-    part-values-fit-end-3
-    sub-values-fit-5
-    sub-values-fit-6
-    part-values-fit-start-4
-    part-values-fit-end-4
+    list-of-requires
+    ratio-of-requires
     values-fit-requires
     returns-2)

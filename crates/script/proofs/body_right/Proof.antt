@@ -46,7 +46,11 @@ unfolding bodyRight
 returns-10 c = rw (c .match .keys10)
 
 returns-11 : tie.Need-returns-11
-returns-11 c = sym (other (c .before .args .code) (c .before .args .n) (c .match .rest))
+unfolding bodyRight
+returns-11 c = rw (c .match .keys11)
+
+returns-12 : tie.Need-returns-12
+returns-12 c = sym (other (c .before .args .code) (c .before .args .n) (c .match .rest))
 
 pub body-right-spec : {M : Type 1} → statement M
 body-right-spec =
@@ -62,4 +66,5 @@ body-right-spec =
     returns-8
     returns-9
     returns-10
-    returns-11)
+    returns-11
+    returns-12)

@@ -1,5 +1,5 @@
 -- `script::take_instruction` meets its contract.
-use Prim.Native.Nat.{ℕ, _<_}
+use Prim.Native.Nat.{ℕ}
 use native.Mathlib.Omega.{arith}
 use mathlib.Core.Path.{_≡_, refl, sym, ap, _∙_}
 use mathlib.Core.Bool.{true}
@@ -10,7 +10,7 @@ use borrow.Author.Needs.{needs}
 use Rattle.meaning.proofs.Tests.{denied, affirmed}
 use Rattle.script.specs.Instructions.{bodyRight, called}
 use Rattle.script.specs.Instructions as instructions
-use Rattle.script.proofs.Codes.{known, call-row, made-right, made-other}
+use Rattle.script.proofs.Codes.{call-row, made-right}
 use Rattle.script.proofs.Lend.{front-is, call-left}
 use Rattle.script.proofs.Told.{tellable, told}
 use Rattle.script.proofs.take_instruction.Statement.{statement}
@@ -52,12 +52,7 @@ take-other-requires : tie.Need-take-other-requires
 take-other-requires c κs =
     let k = c .before .before .before .before in
     let s = k .before .before .before .before .before .before .before in
-    let o = made-other (s .args .code) (k .call-of .ensures) (c .before .before .before .if2 .taken) in
-    let r = right (k .before) in
-    (s .pre, r, omega (arith, o .0, c .before .before .before .if2 .taken), under (s .args .code) (known _ _ r) (o .1))
-  where
-    under : (code : ℕ) → code < 10 → (code ≡ 9 → ⊥) → code < 9
-    under code h n = omega arith
+    (s .pre, right (k .before), omega (arith, k .call-of .ensures, c .before .before .before .if2 .taken))
 
 same-length : tie.Need-same-length
 same-length c = search needs

@@ -1,35 +1,15 @@
 -- `values::fits_cycle` meets its contract.
-use native.Mathlib.Omega.{arith}
 use mathlib.Core.Path.{ap}
 use lib.Dec.{leb}
 use borrow.Author.Needs.{needs}
-use borrow.Author.Tests.{leb-true}
-use Rattle.meaning.specs.Octets.{at32}
-use Rattle.meaning.specs.Block.{ratioOk}
-use Rattle.values.proofs.Values.{quotient}
 use Rattle.values.proofs.fits_cycle.Statement.{statement}
 use Rattle.values.proofs.fits_cycle.Tie as tie
 
-get32-requires : tie.Need-get32-requires
-get32-requires c κs = search needs
-
-get32-requires-2 : tie.Need-get32-requires-2
-get32-requires-2 c κs = search needs
-
-mul-result : tie.Need-mul-result
-mul-result c = search needs
-
-div-result : tie.Need-div-result
-unfolding ratioOk
-div-result c =
-    let s = c .before .before .before in
-    omega (arith, leb-true 1 (at32 (s .args .v .now) 4) (s .pre .1), c .get322 .ensures .0)
+cycle-requires : tie.Need-cycle-requires
+cycle-requires c κs = search needs
 
 returns : tie.Need-returns
-returns c =
-    let s = c .before .before .before in
-    ap (leb (s .args .sum)) (quotient (s .args .v .now) _ _ (c .before .get32 .ensures .0) (c .get322 .ensures .0))
+returns c = ap (leb (c .before .before .args .sum)) (c .cycle .ensures)
 
 pub fits-cycle-spec : {M : Type 1} → statement M
-fits-cycle-spec =
-    tie.close (tie.spec get32-requires get32-requires-2 mul-result div-result returns)
+fits-cycle-spec = tie.close (tie.spec cycle-requires returns)

@@ -3,6 +3,8 @@
 mod captures;
 mod cut_law;
 mod examples;
+mod gates;
+mod gates_model;
 mod no_panic;
 mod not_served;
 mod numbers;

@@ -31,6 +31,8 @@ fn call_all(bench: &mut Bench, chance: &mut Chance, message: &[u8]) {
     bench.local(name, &chance.octets(length));
     bench.build_into(room);
     bench.expire();
+    let instant = i64::from_be_bytes(chance.octets(8).try_into().unwrap());
+    assert_eq!(bench.gates(instant).0 != 1, sound);
     assert_eq!(bench.is_sound(), sound);
 }
 

@@ -39,6 +39,7 @@ fn number_1_memory_of_wrong_length() {
         assert_eq!(bench.local(0x00A4, &[0, 1]), 1);
         assert_eq!(bench.build().0, 1);
         assert_eq!(bench.expire(), 1);
+        assert_eq!(bench.gates(0), (1, None));
     }
 }
 
@@ -49,6 +50,7 @@ fn number_1_memory_not_sound() {
     assert_eq!(bench.local(0x00A4, &[0, 1]), 1);
     assert_eq!(bench.build().0, 1);
     assert_eq!(bench.expire(), 1);
+    assert_eq!(bench.gates(0), (1, None));
     assert_eq!(bench.make_fresh(), 0);
 }
 

@@ -8,6 +8,7 @@ mod documents;
 mod files;
 mod process;
 mod rig;
+mod rig_gates;
 mod samples;
 mod starters;
 mod told;

@@ -3,17 +3,17 @@
 use crate::process::{assert_quiet_without_reader, assert_refused, lines, Peer, RIG};
 use kit::{command, hex, list, read, set, subscribe, Bench};
 
-fn instruction(code: u8, body: &[u8]) -> Vec<u8> {
+pub fn instruction(code: u8, body: &[u8]) -> Vec<u8> {
     let [high, low] = (body.len() as u16).to_be_bytes();
     [&[code, high, low], body].concat()
 }
 
-fn message(room: u16, message: &[u8]) -> Vec<u8> {
+pub fn message(room: u16, message: &[u8]) -> Vec<u8> {
     instruction(1, &[&room.to_be_bytes(), message].concat())
 }
 
 /// A message whose line has its position.
-fn in_full(room: u16, message: &[u8]) -> Vec<u8> {
+pub fn in_full(room: u16, message: &[u8]) -> Vec<u8> {
     instruction(9, &[&room.to_be_bytes(), message].concat())
 }
 
@@ -21,7 +21,7 @@ fn local(name: u16, value: &[u8]) -> Vec<u8> {
     instruction(2, &[&name.to_be_bytes(), value].concat())
 }
 
-fn build(room: u16) -> Vec<u8> {
+pub fn build(room: u16) -> Vec<u8> {
     instruction(3, &room.to_be_bytes())
 }
 
@@ -298,6 +298,8 @@ fn a_peer_on_a_pipe_gets_each_answer() {
         assert_eq!(peer.line(), "0 0271000701000300010000\n");
         peer.write(&instruction(4, &[]));
         assert_eq!(peer.line(), "8 -\n");
+        peer.write(&instruction(10, &[0; 8]));
+        assert_eq!(peer.line(), "15 -\n");
     }
     peer.write(&hex("00 00"));
     assert_eq!(peer.end(), "cut");

@@ -9,7 +9,7 @@ use tools::traffic::{self, Kind};
 
 fn usage() -> String {
     format!(
-        "usage: traffic KIND SEED COUNT; KIND is {} (the last two for desk, the three before them for rig, \
+        "usage: traffic KIND SEED COUNT; KIND is {} (the last two for desk, the five before them for rig, \
 all others for bridge), SEED the number that the stream follows from, COUNT how many frames, \
 instructions or lines it has",
         traffic::words()

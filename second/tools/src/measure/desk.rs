@@ -4,10 +4,10 @@ use std::io::{self, Write};
 
 use programs::bridge;
 
-use super::processor;
+use super::pair::Pair;
 use super::table::Row;
-use super::time::{self, SEED};
-use crate::traffic::measured::{Limit, Stream};
+use super::time::SEED;
+use crate::traffic::measured::Stream;
 
 /// The streams whose answers are read: replies of every kind, then those with the most records and
 /// those with the longest values.
@@ -15,16 +15,14 @@ pub const WORDS: [&str; 3] = ["mixed", "full-reads-255", "lists-4"];
 
 /// The desk's times to those of the second one, or why they cannot be compared here.
 pub fn rows(desks: &[String; 2], count: u64) -> io::Result<Vec<Row>> {
-    let obstacle = processor::obstacle("desk", desks)?;
+    let pair = Pair::of("desk", desks)?;
     let streams = WORDS.iter().filter_map(|word| Stream::named(word));
     let row = |stream: &Stream| {
-        let what = format!("time of desk to the second's: answers to {}", stream.what);
-        if let Some(why) = &obstacle {
-            return Ok(Row::untimed(what, Limit::Any, why));
-        }
+        let what = format!("answers to {}", stream.what);
         let lines = stream.before() + (count / stream.one_in).max(1);
-        let times = time::measure(desks, |sink| write(stream, lines, sink))?;
-        Ok(Row::timed(what, Limit::Any, lines, &times))
+        pair.row(&what, (lines, "messages"), |sink| {
+            write(stream, lines, sink)
+        })
     };
     streams.map(row).collect()
 }

@@ -5,7 +5,9 @@ pub mod desk;
 mod fault;
 pub mod gate;
 pub mod library;
+mod pair;
 pub mod processor;
+mod rig;
 pub mod stack;
 pub mod table;
 pub mod time;
@@ -23,12 +25,12 @@ use time::SEED;
 
 /// How the program is called.
 pub const USAGE: &str =
-    "usage: measure [--worst] [--desk DESK SECOND] [--stack CALL LIBRARY] [--gate LOG] BRIDGE SECOND \
-[COUNT]; BRIDGE is the path of the bridge that is measured, SECOND of the one that it is measured \
-against, DESK and its SECOND likewise of desks, COUNT how many of the shortest messages a stream has \
-(1000000 if left out), LIBRARY a static library for x86-64 that has the message call under the name \
-CALL, LOG what a gate printed; --worst also searches for the worst message; the status is 1 if a \
-figure is over its limit";
+    "usage: measure [--worst] [--desk DESK SECOND] [--rig RIG SECOND] [--stack CALL LIBRARY] \
+[--gate LOG] BRIDGE SECOND [COUNT]; BRIDGE is the path of the bridge that is measured, SECOND of the \
+one that it is measured against, DESK and RIG and their SECOND likewise of desks and of rigs, COUNT \
+how many of the shortest messages a stream has (1000000 if left out), LIBRARY a static library for \
+x86-64 that has the message call under the name CALL, LOG what a gate printed; --worst also searches \
+for the worst message; the status is 1 if a figure is over its limit";
 
 /// Messages of a stream where no count is given.
 const COUNT: u64 = 1_000_000;
@@ -38,7 +40,7 @@ const STACK: [i64; 2] = [2_100, 1_024];
 const GATE: f64 = 600.0;
 
 /// What to measure.
-#[derive(Debug, PartialEq, Eq)]
+#[derive(Debug, Default, PartialEq, Eq)]
 pub struct Plan {
     /// Paths of the bridge and of the second one.
     pub programs: [String; 2],
@@ -48,6 +50,8 @@ pub struct Plan {
     pub worst: bool,
     /// Paths of the desk and of the second one.
     pub desks: Option<[String; 2]>,
+    /// Paths of the rig and of the second one.
+    pub rigs: Option<[String; 2]>,
     /// The call whose stack is to be read, in a library whose code is to be counted.
     pub stack: Option<Exported>,
     /// Path of what a gate printed.
@@ -66,41 +70,44 @@ pub struct Exported {
 impl Plan {
     /// Reads the arguments.
     pub fn parse(arguments: &[String]) -> Result<Plan, String> {
-        let (mut worst, mut desks, mut stack, mut gate) = (false, None, None, None);
+        let mut plan = Plan::default();
         let mut rest = arguments;
-        loop {
-            match rest {
-                [word, behind @ ..] if word == "--worst" && !worst => {
-                    worst = true;
-                    rest = behind;
-                }
-                [word, desk, second, behind @ ..] if word == "--desk" && desks.is_none() => {
-                    desks = Some([desk, second].map(|path| path_of(path)));
-                    rest = behind;
-                }
-                [word, call, library, behind @ ..] if word == "--stack" && stack.is_none() => {
-                    stack = Some(Exported {
-                        call: call.clone(),
-                        library: path_of(library),
-                    });
-                    rest = behind;
-                }
-                [word, log, behind @ ..] if word == "--gate" && gate.is_none() => {
-                    gate = Some(log.clone());
-                    rest = behind;
-                }
-                _ => break,
-            }
+        while let Some(behind) = plan.take_option(rest) {
+            rest = behind;
         }
-        let (programs, count) = programs_and_count(rest)?;
-        Ok(Plan {
-            programs,
-            count,
-            worst,
-            desks,
-            stack,
-            gate,
-        })
+        (plan.programs, plan.count) = programs_and_count(rest)?;
+        Ok(plan)
+    }
+
+    /// Takes the option in front, if there is one that was not there before; the words behind it.
+    fn take_option<'a>(&mut self, words: &'a [String]) -> Option<&'a [String]> {
+        let pair = |program, second| Some([program, second].map(|path: &String| path_of(path)));
+        match words {
+            [word, behind @ ..] if word == "--worst" && !self.worst => {
+                self.worst = true;
+                Some(behind)
+            }
+            [word, desk, second, behind @ ..] if word == "--desk" && self.desks.is_none() => {
+                self.desks = pair(desk, second);
+                Some(behind)
+            }
+            [word, rig, second, behind @ ..] if word == "--rig" && self.rigs.is_none() => {
+                self.rigs = pair(rig, second);
+                Some(behind)
+            }
+            [word, call, library, behind @ ..] if word == "--stack" && self.stack.is_none() => {
+                self.stack = Some(Exported {
+                    call: call.clone(),
+                    library: path_of(library),
+                });
+                Some(behind)
+            }
+            [word, log, behind @ ..] if word == "--gate" && self.gate.is_none() => {
+                self.gate = Some(log.clone());
+                Some(behind)
+            }
+            _ => None,
+        }
     }
 }
 
@@ -136,6 +143,9 @@ pub fn run<W: Write>(plan: &Plan, output: &mut W) -> io::Result<usize> {
     rows.extend(time_rows(plan)?);
     if let Some(desks) = &plan.desks {
         rows.extend(desk::rows(desks, plan.count)?);
+    }
+    if let Some(rigs) = &plan.rigs {
+        rows.extend(rig::rows(rigs, plan.count)?);
     }
     rows.extend(library.into_iter().flatten());
     rows.extend(gate);

@@ -8,7 +8,7 @@ use port::{value_in, PENDING, PRESENT, SUBSCRIBED};
 use programs::rig::MOST_LENT;
 
 use super::dice::Dice;
-use super::{schedules, values};
+use super::{gated, schedules, values};
 
 /// Sound memory with some change, after which it mostly is not sound.
 pub fn changed(dice: &mut Dice, sound: &[u8]) -> Vec<u8> {
@@ -25,20 +25,54 @@ pub fn changed(dice: &mut Dice, sound: &[u8]) -> Vec<u8> {
     memory
 }
 
-/// Changes one to three octets, at places that matter more often than elsewhere.
+/// Sound memory in which a block runs that is not made of the values beside it.
+pub fn running(dice: &mut Dice, sound: &[u8]) -> Vec<u8> {
+    let mut memory = sound.to_vec();
+    for part in PARTS {
+        if value_in(sound, part).is_none() || dice.one_in(2) {
+            let value = values::permitted(dice, &TABLE[part]);
+            install(&mut memory, part, Some(&value));
+        }
+    }
+    let block = gated::schedule(dice).concat();
+    install(&mut memory, COMMIT, Some(&block));
+    memory
+}
+
+/// Sound memory with one octet changed, often one of the running block.
+pub fn damaged(dice: &mut Dice, sound: &[u8]) -> Vec<u8> {
+    let mut memory = sound.to_vec();
+    let at = match value_in(sound, COMMIT) {
+        Some(block) if dice.one_in(2) => TABLE[COMMIT].start + dice.below(block.len()),
+        _ => place(dice, sound),
+    };
+    change_octet(dice, &mut memory[at]);
+    memory
+}
+
+/// Changes one to three octets.
 fn change_octets(dice: &mut Dice, sound: &[u8], memory: &mut [u8]) {
     for _ in 0..dice.between(1, 3) {
-        let at = match dice.below(5) {
-            0..=1 => dice.below(BODIES),
-            2..=3 => near_an_end(dice, sound),
-            _ => dice.below(SIZE),
-        };
-        memory[at] = match dice.below(3) {
-            0 => memory[at].wrapping_add(1),
-            1 => memory[at] ^ 1 << dice.below(8),
-            _ => dice.octet(),
-        };
+        let at = place(dice, sound);
+        change_octet(dice, &mut memory[at]);
     }
+}
+
+/// A place that matters, more often than any other.
+fn place(dice: &mut Dice, sound: &[u8]) -> usize {
+    match dice.below(5) {
+        0..=1 => dice.below(BODIES),
+        2..=3 => near_an_end(dice, sound),
+        _ => dice.below(SIZE),
+    }
+}
+
+fn change_octet(dice: &mut Dice, octet: &mut u8) {
+    *octet = match dice.below(3) {
+        0 => octet.wrapping_add(1),
+        1 => *octet ^ 1 << dice.below(8),
+        _ => dice.octet(),
+    };
 }
 
 /// The last octet of a value or room, or the octet after it.

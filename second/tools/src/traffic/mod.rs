@@ -2,12 +2,14 @@
 //! every machine.
 
 pub mod acts;
+pub mod asked;
 mod breaks;
 mod captures;
 mod commands;
 pub mod dice;
 mod edges;
 mod frames;
+mod gated;
 pub mod measured;
 mod memories;
 pub mod not_served;
@@ -20,6 +22,7 @@ mod values;
 use std::io::{self, Write};
 use std::str::FromStr;
 
+use asked::{Asked, ASKED};
 use dice::Dice;
 use measured::{Stream, STREAMS};
 
@@ -30,6 +33,8 @@ pub enum Kind {
     Frames,
     /// Frames for `bridge`, to be measured.
     Measured(&'static Stream),
+    /// Records for `rig`, to be measured.
+    Asked(&'static Asked),
     /// Records for `rig`.
     Script,
     /// Records for `rig` that make more calls than they lend and show, to be stored.
@@ -55,6 +60,7 @@ impl FromStr for Kind {
             "capture-edges" => Ok(Kind::CaptureEdges),
             _ => Stream::named(word)
                 .map(Kind::Measured)
+                .or_else(|| Asked::named(word).map(Kind::Asked))
                 .ok_or_else(|| format!("KIND is {}, not {word:?}", words())),
         }
     }
@@ -63,7 +69,12 @@ impl FromStr for Kind {
 /// The words of all kinds.
 pub fn words() -> String {
     let measured = STREAMS.iter().map(|stream| stream.word);
-    let words: Vec<&str> = ["frames"].into_iter().chain(measured).collect();
+    let asked = ASKED.iter().map(|stream| stream.word);
+    let words: Vec<&str> = ["frames"]
+        .into_iter()
+        .chain(measured)
+        .chain(asked)
+        .collect();
     format!(
         "{}, script, calls, edges, captures or capture-edges",
         words.join(", ")
@@ -76,6 +87,7 @@ pub fn write<W: Write>(kind: Kind, seed: u64, count: u64, sink: &mut W) -> io::R
     match kind {
         Kind::Frames => frames::write(&mut dice, count, sink),
         Kind::Measured(stream) => stream.write(seed, count, sink),
+        Kind::Asked(stream) => stream.write(seed, count, sink),
         Kind::Script => script::write(&mut dice, script::OFTEN, count, sink),
         Kind::Calls => script::write(&mut dice, script::SELDOM, count, sink),
         Kind::Edges => edges::write(count, sink),

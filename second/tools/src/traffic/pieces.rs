@@ -1,4 +1,4 @@
-//! The pieces that streams are made of: frames, and the cut piece that some streams end with.
+//! The pieces that streams are made of: frames, instructions, and the cut piece that some streams end with.
 
 use super::dice::Dice;
 
@@ -13,6 +13,12 @@ pub fn is_cut(dice: &mut Dice) -> bool {
 /// The frame of a message.
 pub fn frame(message: &[u8]) -> Vec<u8> {
     [&(message.len() as u16).to_be_bytes(), message].concat()
+}
+
+/// The instruction of a code and a body.
+pub fn instruction(code: u8, body: &[u8]) -> Vec<u8> {
+    let [high, low] = (body.len() as u16).to_be_bytes();
+    [&[code, high, low], body].concat()
 }
 
 /// Cuts a piece within its head, right after it, or within its body.

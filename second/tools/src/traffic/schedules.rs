@@ -7,7 +7,8 @@ use super::dice::Dice;
 use super::operations::Operations;
 use super::values::{self, list};
 
-const BILLION: u128 = 1_000_000_000;
+/// Nanoseconds of a second.
+pub const BILLION: u128 = 1_000_000_000;
 
 /// The values of 0004, 0005, 0006 and 0007.
 pub type Values = [Vec<u8>; PARTS.len()];
@@ -29,9 +30,7 @@ pub fn parts(dice: &mut Dice) -> Values {
 /// A cycle time that the list fits: amply or exactly as often as can be; now and then one for
 /// which it is too long by less than a nanosecond's worth of the fraction.
 fn cycle(dice: &mut Dice, list: &[u8]) -> Vec<u8> {
-    let intervals = list.chunks_exact(LIST_ENTRY);
-    let intervals = intervals.map(|entry| last_four(entry).unwrap_or(0));
-    let total: u128 = intervals.map(u128::from).sum();
+    let total: u128 = intervals(list).map(u128::from).sum();
     let denominator = match dice.below(4) {
         0 => 1,
         1 => 1_000_000_000,
@@ -47,6 +46,19 @@ fn cycle(dice: &mut Dice, list: &[u8]) -> Vec<u8> {
     };
     let numerator = numerator.min(u32::MAX.into()) as u32;
     [numerator.to_be_bytes(), denominator.to_be_bytes()].concat()
+}
+
+/// The intervals of a list.
+pub fn intervals(list: &[u8]) -> impl Iterator<Item = u32> + '_ {
+    let entries = list.chunks_exact(LIST_ENTRY);
+    entries.map(|entry| last_four(entry).unwrap_or(0))
+}
+
+/// The nanoseconds of a cycle time, the remainder dropped.
+pub fn cycle_nanoseconds(cycle_time: &[u8]) -> Option<u128> {
+    let numerator = u32::from_be_bytes(*cycle_time.first_chunk()?);
+    let denominator = last_four(cycle_time)?;
+    (u128::from(numerator) * BILLION).checked_div(denominator.into())
 }
 
 /// Operations that set a whole schedule, or part of it, and commit it.

@@ -8,8 +8,10 @@ use programs::rig::{code, Rig, HEAD, MOST_LENT, MOST_ROOM};
 use programs::stream::Lines;
 
 use super::dice::Dice;
-use super::pieces::{is_cut, shorten};
-use super::{breaks, commands, memories, values};
+use super::gated::{self, Running};
+use super::operations::Operations;
+use super::pieces::{self, is_cut, shorten};
+use super::{breaks, commands, memories, schedules, values};
 
 /// A room that is large enough for every reply.
 const AMPLE: usize = 4_096;
@@ -19,6 +21,8 @@ const LONGEST_MESSAGE: usize = 65_533;
 const LEAST_NOTIFICATION_ROOM: usize = 1_600;
 /// One message in so many is a command that breaks, beside those among all other messages.
 const BREAKS: usize = 9;
+/// One scene in so many asks which gates are open, beside what is asked in all others.
+const GATES: usize = 11;
 /// Nanoseconds around the edges of the delay conversion.
 const DELAYS: [u64; 8] = [
     0,
@@ -99,6 +103,9 @@ struct Script<'a, W> {
 impl<W: Write> Script<'_, W> {
     /// One scene. Memory is sound before it and after it.
     fn scene(&mut self) -> io::Result<()> {
+        if self.dice.one_in(GATES) {
+            return self.gates();
+        }
         match self.dice.below(self.pace.scenes) {
             0..=12 => self.message(),
             13..=14 => self.local_value(),
@@ -112,8 +119,12 @@ impl<W: Write> Script<'_, W> {
         }
     }
 
-    /// Any call, on any memory.
-    fn call(&mut self) -> io::Result<()> {
+    /// Any call, on any memory. Where nothing runs in it, gates are asked for what ran before.
+    fn call(&mut self, before: Option<&Running>) -> io::Result<()> {
+        if self.dice.one_in(4) {
+            let running = Running::of(&self.rig.memory);
+            return self.ask(running.as_ref().or(before));
+        }
         match self.dice.below(8) {
             0..=2 => {
                 let message = drawn(self.dice, &FRESH);
@@ -130,14 +141,19 @@ impl<W: Write> Script<'_, W> {
         self.send(&message)
     }
 
-    /// Sends a message, as often to be told in full as not.
+    /// Sends a message, as often to be told in full as not. Of what runs anew the gates are asked.
     fn send(&mut self, message: &[u8]) -> io::Result<()> {
         let message = &message[..message.len().min(LONGEST_MESSAGE)];
         let room = self.room_for(message);
         let body = [&(room as u16).to_be_bytes(), message].concat();
         let code = self.dice.pick(&[code::MESSAGE, code::MESSAGE_IN_FULL]);
+        let before = Running::of(&self.rig.memory);
         self.instruction(code, &body)?;
-        self.show()
+        self.show()?;
+        match Running::of(&self.rig.memory) {
+            running if running == before => Ok(()),
+            running => self.ask(running.as_ref()),
+        }
     }
 
     /// A room size, often one around the length of the reply.
@@ -216,6 +232,42 @@ impl<W: Write> Script<'_, W> {
         self.show()
     }
 
+    /// Which gates are open: of what runs, of a schedule that is committed for it, or of one in memory
+    /// that is lent, with an octet changed or not.
+    fn gates(&mut self) -> io::Result<()> {
+        match self.dice.below(8) {
+            0..=3 => {}
+            4..=6 => {
+                let mut operations = Operations::default();
+                schedules::commit_all(&gated::schedule(self.dice), &mut operations);
+                return self.send(&operations.command());
+            }
+            _ => {
+                let lent = memories::running(self.dice, &self.rig.memory);
+                self.instruction(code::LEND, &lent)?;
+            }
+        }
+        let running = Running::of(&self.rig.memory);
+        self.ask(running.as_ref())?;
+        if self.dice.one_in(8) {
+            let sound = self.rig.memory.clone();
+            let damaged = memories::damaged(self.dice, &sound);
+            self.instruction(code::LEND, &damaged)?;
+            self.ask(running.as_ref())?;
+            self.instruction(code::LEND, &sound)?;
+        }
+        Ok(())
+    }
+
+    /// Asks which gates are open at instants that suit a running block.
+    fn ask(&mut self, running: Option<&Running>) -> io::Result<()> {
+        for _ in 0..self.dice.between(1, 3) {
+            let instant = gated::instant(self.dice, running);
+            self.instruction(code::GATES, &instant.to_be_bytes())?;
+        }
+        self.show()
+    }
+
     fn delay(&mut self) -> io::Result<()> {
         let any = self.dice.bits() >> self.dice.below(64);
         let nanoseconds = match self.dice.below(DELAYS.len() + 4) {
@@ -228,16 +280,18 @@ impl<W: Write> Script<'_, W> {
     /// Lends other memory, calls on it, and lends sound memory again.
     fn change_memory(&mut self) -> io::Result<()> {
         let sound = self.rig.memory.clone();
+        let before = Running::of(&sound);
         let changed = memories::changed(self.dice, &sound);
         self.instruction(code::LEND, &changed)?;
         for _ in 0..self.dice.between(1, 3) {
-            self.call()?;
+            self.call(before.as_ref())?;
         }
         if self.rig.memory.len() == SIZE && self.dice.one_in(4) {
             self.instruction(code::MAKE_FRESH, &[])
         } else {
             if self.dice.one_in(4) {
                 self.instruction(code::MAKE_FRESH, &[])?;
+                self.ask(before.as_ref())?;
             }
             self.instruction(code::LEND, &sound)
         }
@@ -264,16 +318,11 @@ impl<W: Write> Script<'_, W> {
         }
         self.left -= 1;
         self.rig.instruction(code, body)?;
-        let mut instruction = Self::joined(code, body);
+        let mut instruction = pieces::instruction(code, body);
         if self.cut && self.left == 0 {
             instruction = self.faulty(instruction);
         }
         self.sink.write_all(&instruction)
-    }
-
-    fn joined(code: u8, body: &[u8]) -> Vec<u8> {
-        let [high, low] = (body.len() as u16).to_be_bytes();
-        [&[code, high, low], body].concat()
     }
 
     /// An instruction cut short, with an unknown code, or with a body of the wrong length.
@@ -296,9 +345,12 @@ impl<W: Write> Script<'_, W> {
                     (code::DELAY, 9),
                     (code::MESSAGE_IN_FULL, 0),
                     (code::MESSAGE_IN_FULL, 1),
+                    (code::GATES, 0),
+                    (code::GATES, 7),
+                    (code::GATES, 9),
                 ];
                 let (code, length) = self.dice.pick(&wrong);
-                instruction = Self::joined(code, &vec![0; length]);
+                instruction = pieces::instruction(code, &vec![0; length]);
             }
         }
         instruction

@@ -100,7 +100,7 @@ static SENT: LazyLock<[(Kind, Vec<Sent>); 2]> =
     LazyLock::new(|| [Kind::Script, Kind::Calls].map(|kind| (kind, sent(kind))));
 
 fn sent(kind: Kind) -> Vec<Sent> {
-    let scripts = (1..=300).flat_map(|seed| pieces(&stream(kind, seed, 200), 3));
+    let scripts = (1..=600).flat_map(|seed| pieces(&stream(kind, seed, 200), 3));
     let messages = scripts.filter(|(head, body)| [1, 9].contains(&head[0]) && body.len() >= 2);
     let sent = messages.map(|(head, body)| Sent {
         code: head[0],

@@ -8,7 +8,7 @@ use kit::files::ROOT;
 use tools::measure::table::{Figure, Row, Table};
 
 use crate::measure::{file, on_path, rows, TOOLS};
-use crate::process::{text, BRIDGE, DESK, MEASURE};
+use crate::process::{text, BRIDGE, DESK, MEASURE, RIG};
 use crate::{gate, stack};
 
 /// A call that takes as many octets of stack as it may, and one that takes 8 more.
@@ -120,6 +120,7 @@ fn repository(name: &str) -> PathBuf {
     fs::copy(MEASURE, release.join("measure")).unwrap();
     fs::copy(*BRIDGE, release.join("bridge")).unwrap();
     fs::copy(*DESK, release.join("desk")).unwrap();
+    fs::copy(*RIG, release.join("rig")).unwrap();
     folder
 }
 
@@ -129,11 +130,11 @@ measure: proves and builds first what is not yet, which takes some minutes if no
 measure: measures, which takes some minutes
 ";
 
-/// Runs `./measure` with a bridge and a desk that are not compiled; what it says before is taken off.
+/// Runs `./measure` with a bridge, a desk and a rig that are not compiled; what it says before is taken off.
 /// What stands in for `rt` makes a library of the listing, and what stands in for `cargo` builds nothing.
 fn script(name: &str, listing: &str) -> Output {
     let mut command = Command::new(repository(name).join("measure"));
-    command.args([format!("{TOOLS}/silent"), format!("{TOOLS}/silent")]);
+    command.args(["silent"; 3].map(|name| format!("{TOOLS}/{name}")));
     command.env("PATH", path());
     let mut output = command.env("LISTING", listing).output().unwrap();
     let said: Vec<u8> = output.stderr.drain(..SAID.len()).collect();
@@ -147,8 +148,12 @@ fn the_status_comes_through_the_script() {
     let figure = |output: &Output| rows(output)[rows(output).len() - 2][1].to_owned();
     let output = script("within", &most);
     assert_eq!(figure(&output), "3124 octets");
-    let desks = |row: &&[&str; 5]| row[0].starts_with("time of desk to the second's: ");
-    assert_eq!(rows(&output).iter().filter(desks).count(), 3);
+    let of = |program: &str| {
+        let begin = format!("time of {program} to the second's: ");
+        let is = |row: &&[&str; 5]| row[0].starts_with(&begin);
+        rows(&output).iter().filter(is).count()
+    };
+    assert_eq!([of("desk"), of("rig")], [3, 2]);
     assert_eq!(output.status.code(), Some(0));
     let output = script("beyond", &over);
     assert_eq!(figure(&output), "3132 octets over");

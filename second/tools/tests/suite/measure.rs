@@ -68,6 +68,11 @@ pub fn rows(output: &Output) -> Vec<[&str; 5]> {
 
 /// Asserts that a row has the times of two bridges for so many messages.
 fn assert_timed(row: [&str; 5], messages: u64) {
+    assert_timed_on(row, messages, "messages");
+}
+
+/// Asserts that a row has the times of two programs for so many of what they are timed on.
+pub fn assert_timed_on(row: [&str; 5], count: u64, counted: &str) {
     let [_, ratio, _, each, from] = row;
     let ratio = ratio.strip_suffix(" over").unwrap_or(ratio);
     let number = |word: &str| word.parse::<f64>().unwrap();
@@ -76,7 +81,7 @@ fn assert_timed(row: [&str; 5], messages: u64) {
     // What is shown is rounded.
     let shown = number(bridge) / second - number(ratio);
     assert!(second > 0.0 && shown.abs() < 0.1, "{row:?}");
-    let start = format!("{messages} messages, medians of 5 runs each, ");
+    let start = format!("{count} {counted}, medians of 5 runs each, ");
     let turns = from.strip_prefix(&start).unwrap();
     let turns = turns.strip_suffix(" by turns").unwrap();
     let (low, high) = turns.split_once(" to ").unwrap();
@@ -182,6 +187,7 @@ fn arguments_of_measure() {
         count: 1_000_000,
         worst: false,
         desks: None,
+        rigs: None,
         stack: None,
         gate: None,
     };
@@ -191,6 +197,7 @@ fn arguments_of_measure() {
         count: 7,
         worst: true,
         desks: Some(paths("./d", "/e")),
+        rigs: Some(paths("./r", "./s/t")),
         stack: Some(Exported {
             call: "message".into(),
             library: "./-x.a".into(),
@@ -198,21 +205,24 @@ fn arguments_of_measure() {
         gate: Some("log".into()),
     };
     assert_eq!(
-        plan("--worst --desk d /e --stack message -x.a --gate log ../a -b/c 7"),
+        plan("--worst --desk d /e --rig r s/t --stack message -x.a --gate log ../a -b/c 7"),
         Ok(full())
     );
     assert_eq!(
-        plan("--gate log --stack message -x.a --worst --desk d /e ../a -b/c 7"),
+        plan("--gate log --rig r s/t --stack message -x.a --worst --desk d /e ../a -b/c 7"),
         Ok(full())
     );
 }
 
 #[test]
 fn wrong_use_of_measure() {
-    let cases: [&[&str]; 19] = [
+    let cases: [&[&str]; 22] = [
         &["--desk", *DESK, *DESK],
         &["--desk", *DESK, *DESK, *BRIDGE],
         &["--desk", "a", "b", "--desk", "a", "b", *BRIDGE, *BRIDGE],
+        &["--rig", *RIG, *RIG],
+        &["--rig", *RIG, *RIG, *BRIDGE],
+        &["--rig", "a", "b", "--rig", "a", "b", *BRIDGE, *BRIDGE],
         &[],
         &[*BRIDGE],
         &[*BRIDGE, *BRIDGE, "few"],

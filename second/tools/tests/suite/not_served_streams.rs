@@ -111,7 +111,7 @@ fn streams_have_each_code_with_each_name_and_value() {
     seen.assert_done(10);
     for kind in [Kind::Script, Kind::Calls] {
         let mut seen = Seen::default();
-        (1..=300).for_each(|seed| seen.take_script(&stream(kind, seed, 200)));
+        (1..=600).for_each(|seed| seen.take_script(&stream(kind, seed, 200)));
         seen.assert_done(10);
         seen.assert_broken(4);
     }

@@ -13,8 +13,8 @@ use crate::stored::assert_prints;
 use crate::traffic::{pieces, play};
 
 /// What the part by chance follows from, and its instructions.
-const SEED: u64 = 19_123;
-const RECORDS: u64 = 2_700;
+const SEED: u64 = 102_631;
+const RECORDS: u64 = 2_900;
 
 /// The part at the edges, which stands in front.
 fn edges() -> Vec<u8> {
@@ -29,9 +29,9 @@ pub struct Answered {
 }
 
 impl Answered {
-    /// Whether it is one of the five calls.
+    /// Whether it is one of the calls.
     fn is_call(&self) -> bool {
-        self.code <= code::EXPIRY || self.code == code::MESSAGE_IN_FULL
+        self.code <= code::EXPIRY || self.is_message() || self.code == code::GATES
     }
 
     /// Whether it is a message, in full or in short.
@@ -96,7 +96,7 @@ fn the_second_rig_prints_the_stored_lines() {
 fn the_stored_script_has_the_edges_and_follows_from_its_seed() {
     let script = stored("rig", "stdin");
     assert!(script == [edges(), stream(Kind::Calls, SEED, RECORDS)].concat());
-    assert!(script.len() < 1_100_000);
+    assert!(script.len() < 1_110_000);
     assert!(stored("rig", "stdout").len() < 3_000_000);
 }
 
@@ -127,6 +127,7 @@ fn the_part_by_chance_has_every_instruction_and_shows_often() {
         ("rooms shown, 1,600 octets or more", rooms(1_600), 20),
         ("rooms shown, 8,192 octets", rooms(8_192), 2),
         ("delays", of(code::DELAY), 30),
+        ("gates", of(code::GATES), 250),
     ]);
 }
 
@@ -137,6 +138,9 @@ fn the_stored_lines_have_every_number_of_every_call() {
     for instruction in script().iter().filter(|r| r.is_call()) {
         let of = numbers.entry(instruction.code).or_default();
         *of.entry(instruction.number()).or_default() += 1;
+        if instruction.code == code::GATES {
+            continue;
+        }
         let may_write = instruction.is_message() || instruction.code == code::BUILD;
         let writes = may_write && instruction.number() == 0;
         assert_eq!(
@@ -146,13 +150,14 @@ fn the_stored_lines_have_every_number_of_every_call() {
             instruction.line
         );
     }
-    let possible: [(u8, &[u8]); 6] = [
+    let possible: [(u8, &[u8]); 7] = [
         (code::MAKE_FRESH, &[0, 1]),
         (code::MESSAGE, &[0, 1, 2, 3, 4, 5, 6, 7, 8]),
         (code::LOCAL_VALUE, &[0, 1, 12]),
         (code::BUILD, &[0, 1, 9, 10, 11]),
         (code::EXPIRY, &[1, 8, 20, 21]),
         (code::MESSAGE_IN_FULL, &[0, 1, 2, 3, 4, 5, 6, 7, 8]),
+        (code::GATES, &[0, 1, 15]),
     ];
     for (code, possible) in possible {
         let seen: Vec<u8> = numbers[&code].keys().copied().collect();

@@ -4,6 +4,7 @@ use std::collections::{BTreeMap, BTreeSet};
 use std::slice;
 
 use kit::{Bench, Reply};
+use tools::traffic::asked::ASKED;
 use tools::traffic::measured::{Stream, STREAMS};
 use tools::traffic::{stream, words, Kind};
 
@@ -228,7 +229,8 @@ fn the_readme_has_each_stream_and_its_limit() {
         told.extend(words.map(|word| (word, row[3].to_string())));
     }
     let limit = |row: &'static Stream| (row.word, format!("{:.2}", row.limit.ratio()));
-    let limits: BTreeMap<_, _> = STREAMS.iter().map(limit).collect();
+    let asked = ASKED.iter().map(|row| (row.word, "2.00".to_string()));
+    let limits: BTreeMap<_, _> = STREAMS.iter().map(limit).chain(asked).collect();
     assert_eq!(told, limits);
 }
 

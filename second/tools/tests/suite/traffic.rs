@@ -49,12 +49,12 @@ fn the_edges_are_whole_and_the_same_for_each_seed() {
     assert_eq!(lines.len(), pieces(&edges, 3).len());
     assert!(lines.iter().all(|line| line != "cut"));
     // What follows finds fresh memory.
-    assert!(edges.ends_with(&[0, 0, 0]));
+    assert!(edges.ends_with(&[0, 0, 0]) && lines.last().unwrap() == "0 -");
     let mut numbers: BTreeMap<&str, usize> = BTreeMap::new();
     for line in &lines {
         *numbers.entry(line.split(' ').next().unwrap()).or_default() += 1;
     }
-    for number in (0..=12).chain([20, 21]).filter(|number| *number != 2) {
+    for number in (0..=12).chain([15, 20, 21]) {
         let seen = numbers.get(&*number.to_string()).copied();
         assert!(seen.is_some(), "number {number}");
     }
@@ -76,7 +76,7 @@ fn scripts_reach_every_number() {
         }
     }
     let numbers: Vec<u8> = reached.keys().copied().collect();
-    let wanted: Vec<u8> = (0..=12).chain([20, 21]).collect();
+    let wanted: Vec<u8> = (0..=12).chain([15, 20, 21]).collect();
     assert_eq!(numbers, wanted);
     assert!(reached.values().all(|count| *count >= 40), "{reached:?}");
     assert!((10..60).contains(&cut), "{cut} scripts end cut");
@@ -90,8 +90,8 @@ fn instructions_show_memory_and_room_often() {
 }
 
 /// How often each code occurs in some scripts.
-fn codes(kind: Kind) -> [usize; 10] {
-    let mut codes = [0; 10];
+pub fn codes(kind: Kind) -> [usize; 11] {
+    let mut codes = [0; 11];
     for seed in 1..=SCRIPTS {
         for (head, _) in pieces(&stream(kind, seed, RECORDS), 3) {
             if let Some(count) = codes.get_mut(usize::from(head[0])) {
@@ -106,9 +106,9 @@ fn codes(kind: Kind) -> [usize; 10] {
 #[test]
 fn calls_are_made_more_often_than_shown() {
     let codes = codes(Kind::Calls);
-    let calls: usize = codes[..5].iter().sum::<usize>() + codes[9];
+    let calls: usize = codes[..5].iter().sum::<usize>() + codes[9] + codes[10];
     assert!(calls as u64 > SCRIPTS * RECORDS * 7 / 10, "{codes:?}");
-    assert!(codes.iter().all(|count| *count > 300), "{codes:?}");
+    assert!(codes.iter().all(|count| *count > 250), "{codes:?}");
     assert!((calls / 6..calls / 4).contains(&codes[6]), "{codes:?}");
     assert!(codes[7] < codes[6] / 5, "{codes:?}");
 }
@@ -269,18 +269,15 @@ fn empty_frames_follow_one_that_fills_memory() {
     }
 }
 
-/// Plays a script on a bench and shows each message, with its room, to `watch` before it is sent.
-pub fn play(script: &[u8], mut watch: impl FnMut(&Bench, &[u8], usize)) {
+/// Plays a script on a bench and shows each instruction, with its body, to `watch` before it is done.
+pub fn play_all(script: &[u8], mut watch: impl FnMut(&Bench, u8, &[u8])) {
     let mut bench = Bench::fresh();
     let number = |body: &[u8]| u16::from_be_bytes([body[0], body[1]]);
     for (head, body) in pieces(script, 3) {
+        watch(&bench, head[0], &body);
         match (head[0], body.len()) {
             (0, 0) => drop(bench.make_fresh()),
-            (1 | 9, 2..) => {
-                let room = number(&body).into();
-                watch(&bench, &body[2..], room);
-                bench.send_into(&body[2..], room);
-            }
+            (1 | 9, 2..) => drop(bench.send_into(&body[2..], number(&body).into())),
             (2, 2..) => drop(bench.local(number(&body), &body[2..])),
             (3, 2) => drop(bench.build_into(number(&body).into())),
             (4, 0) => drop(bench.expire()),
@@ -288,6 +285,15 @@ pub fn play(script: &[u8], mut watch: impl FnMut(&Bench, &[u8], usize)) {
             _ => {}
         }
     }
+}
+
+/// Plays a script on a bench and shows each message, with its room, to `watch` before it is sent.
+pub fn play(script: &[u8], mut watch: impl FnMut(&Bench, &[u8], usize)) {
+    play_all(script, |bench, code, body| {
+        if let (1 | 9, [high, low, message @ ..]) = (code, body) {
+            watch(bench, message, u16::from_be_bytes([*high, *low]).into());
+        }
+    });
 }
 
 #[test]
@@ -343,8 +349,8 @@ fn streams_follow_from_their_seed_alone() {
         (Kind::Frames, 0xCFAD_BA21_4B8D_1C8B),
         (measured("mixed"), 0x8F2D_1544_4C08_A106),
         (measured("empty"), 0xD944_AA8A_A327_8099),
-        (Kind::Script, 0x80AE_334A_494C_0A3A),
-        (Kind::Calls, 0x1882_91E1_795C_AA72),
+        (Kind::Script, 0xB84E_A66C_8E03_461D),
+        (Kind::Calls, 0xB4C2_F97A_39AD_3675),
         (Kind::Captures, 0x3354_5649_7394_441E),
     ] {
         let [first, second] = [1, 2].map(|seed| stream(kind, seed, 1_000));

@@ -78,6 +78,8 @@ pub fn add(edges: &mut Edges) {
     absent(edges, &fresh, &full);
     blocks(edges, &full);
     timers(edges, &full);
+    // What follows finds memory that can be made fresh.
+    edges.lend(&fresh);
 }
 
 /// Fresh memory, and memory in which every parameter is present, with a block that runs.

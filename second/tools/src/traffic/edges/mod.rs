@@ -4,6 +4,7 @@
 //! `second/wrong` prints other lines.
 
 mod calls;
+mod gates;
 mod marks;
 mod memories;
 mod not_served;
@@ -29,6 +30,7 @@ pub fn write<W: Write>(count: u64, sink: &mut W) -> io::Result<()> {
     not_served::add(&mut edges);
     replies::add(&mut edges);
     memories::add(&mut edges);
+    gates::add(&mut edges);
     edges.fresh();
     for (instruction, _) in edges.script.iter().zip(0..count) {
         sink.write_all(instruction)?;

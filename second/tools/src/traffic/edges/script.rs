@@ -6,6 +6,7 @@ use programs::rig::{code, Rig};
 use programs::stream::Lines;
 
 use crate::traffic::operations::Operations;
+use crate::traffic::pieces;
 
 /// A room that is large enough for every reply.
 pub const AMPLE: u16 = 4_096;
@@ -25,8 +26,7 @@ impl Edges {
     }
 
     pub fn instruction(&mut self, code: u8, body: &[u8]) {
-        let [high, low] = (body.len() as u16).to_be_bytes();
-        self.script.push([&[code, high, low], body].concat());
+        self.script.push(pieces::instruction(code, body));
         // A rig that writes to a sink cannot fail.
         let _ = self.rig.instruction(code, body);
     }
@@ -76,10 +76,11 @@ impl Edges {
         self.message(AMPLE, &[4]);
     }
 
-    /// Memory that is lent, and whether it is sound: an expiry returns 1 where it is not.
+    /// Memory that is lent, and whether it is sound: an expiry returns 1 where it is not, and gates do.
     pub fn lend(&mut self, memory: &[u8]) {
         self.instruction(code::LEND, memory);
         self.expiry();
+        self.instruction(code::GATES, &[0; 8]);
     }
 
     pub fn show(&mut self) {

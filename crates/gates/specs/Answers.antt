@@ -1,0 +1,18 @@
+-- What each case of an answer says: the number where it is refused, else its values.
+use Prim.Native.Nat.{ℕ}
+use Rattle.meaning.specs.Gates.{refused, notStarted, opens}
+use Rattle.meaning.specs.Gates as meaning
+use Rattle.gates.specs.declared.Refusal.{Refusal}
+use Rattle.gates.specs.declared.Refusal.the-variants.{MemoryUnsound, NothingRuns}
+use Rattle.gates.specs.declared.Gates.{Gates}
+use Rattle.gates.specs.declared.Gates.the-variants.{Refused, NotStarted, Open}
+
+-- in the order of RULES 22.3
+unfoldable pub refusalNumber : Refusal → ℕ
+refusalNumber MemoryUnsound = 1
+refusalNumber NothingRuns = 15
+
+unfoldable pub answerOf : Gates → meaning.Gates
+answerOf (Refused why) = refused (refusalNumber why)
+answerOf NotStarted = notStarted
+answerOf (Open s k d) = opens s k d

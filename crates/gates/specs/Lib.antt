@@ -1,0 +1,2 @@
+-- What the contracts of `gates` cite beside `meaning`.
+pub mod Answers
