@@ -1,18 +1,13 @@
 -- An entry that stands at a place of a list: what is answered where it is the last, where its interval has not ended, and where it has.
 use Prim.Native.Nat.{ℕ, zero, suc, _+_, _-_, _≤_, _<_}
-use native.Mathlib.Nat.{add-assoc}
 use mathlib.Core.Path.{_≡_}
 use mathlib.Core.List.{List}
 use lib.ListN.{drop}
 use lib.Seq.{getD-drop, drop-drop}
 use borrow.Author.Tests.{lt-ltb, le-ltb}
-use Rattle.meaning.specs.Octets.{octet, at16, at32}
-use Rattle.meaning.specs.Block.{interval}
+use Rattle.meaning.specs.Octets.{octet, at32}
 use Rattle.meaning.specs.Gates.{opens, states, entryAt}
-
-interval-at : (v : List ℕ) (at : ℕ) → interval (drop at v) ≡ at32 v (at + 3)
-unfolding interval at32 at16
-interval-at v at = simp (getD-drop, add-assoc)
+use Rattle.meaning.proofs.Holding.{interval-at}
 
 module _ (v : List ℕ) (at k from t c : ℕ) where
   pub at-last : entryAt zero (drop at v) k from t c ≡ opens (octet v (at + 2)) k (c - t)

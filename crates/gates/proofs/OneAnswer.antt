@@ -40,7 +40,6 @@ pub data OpenIn (b : List ℕ) (n : ℕ) : Gates → Type 0 where
   entry : (s k d : ℕ) → k < n → s ≡ octet b (16 + 7 * k) → 1 ≤ d → OpenIn b n (Open s k d)
 
 -- what the contract allows where a block runs, from instant 0 on
-
 pub open-reached : (m : List ℕ) (i : ℕ) (r : Gates) → sound m ≡ true → present m commit ≡ true → answerOf r ≡ gates m (pos i)
     → (n : ℕ) × (length (body m commit) ≡ 22 + 7 * n) × OpenIn (body m commit) n r
 open-reached m i r e f g =

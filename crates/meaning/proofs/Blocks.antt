@@ -28,7 +28,7 @@ pub record BlockRule (b : List ℕ) (n : ℕ) : Type 0 where
 
 -- ---- octets of a part
 
-four-part : (s : List ℕ) (i n j k : ℕ) → j + 3 < n → i + j ≡ k → fourAt (part s i n) j ≡ fourAt s k
+pub four-part : (s : List ℕ) (i n j k : ℕ) → j + 3 < n → i + j ≡ k → fourAt (part s i n) j ≡ fourAt s k
 four-part s i n j k h e =
     let at : (d : ℕ) → j + d < n → octet (part s i n) (j + d) ≡ octet s (k + d) =
     λ d l. part-octet s i n (j + d) l ∙ ap (λ (l : ℕ). octet s l) (omega arith) in

@@ -43,7 +43,7 @@ pub running-form : (m : List ℕ) → sound m ≡ true → present m commit ≡ 
 unfolding rowAt rows
 running-form m e f = sym (running-kept (body m commit)) ∙ sound-spelt m e .entries commit (omega arith) .presentRule f
 
--- what every instant is answered by a block that these tests pass, told by its octets
+-- a block of n entries, told by its octets, that has an answer at every instant
 abbrev pub AnswersAll : List ℕ → Type 0
 AnswersAll b = (n : ℕ) × BlockRule b n × ((z : ℤ) → Answers b n z (gatesOf b z))
 

@@ -2,7 +2,7 @@
 -- 16 + 7 i and its interval from octet 17 + 7 i on. There is one such answer, and no other.
 use Prim.Native.Nat.{ℕ, zero, suc, _+_, _-_, _*_, _/_, _%_, _≤_, _<_}
 use native.Mathlib.Omega.{arith}
-use native.Mathlib.Nat.{add-zero, le-refl, mod-lt}
+use native.Mathlib.Nat.{add-zero, add-assoc, le-refl, mod-lt}
 use native.Mathlib.Numerals.{add-one}
 use mathlib.Core.Path.{_≡_, refl, sym, ap, _∙_}
 use mathlib.Core.Logic.{_⊎_, inl, inr, ⊎-elim}
@@ -13,12 +13,12 @@ use lib.Seq.{getD-drop, drop-drop}
 use lib.Dec.{ltb}
 use lib.IntN.{ℤ, pos, negsuc}
 use borrow.Author.Tests.{ltb-true, ltb-false, lt-ltb, le-ltb}
-use Rattle.meaning.specs.Octets.{octet}
+use Rattle.meaning.specs.Octets.{octet, at16, at32}
 use Rattle.meaning.specs.Block.{interval, listOf}
 use Rattle.meaning.specs.Gates.{Gates, notStarted, opens, states, entryAt, gatesOf}
 use Rattle.meaning.proofs.Lists.{part-octet}
 use Rattle.meaning.proofs.Values.{fourAt, four-octets, sumOver}
-use Rattle.meaning.proofs.Blocks.{BlockRule, list-count, block-cycle}
+use Rattle.meaning.proofs.Blocks.{BlockRule, four-part, list-count, block-cycle}
 
 -- ---- the statement
 
@@ -55,27 +55,28 @@ order a b = go (ltb a b) refl
     go true e = inl (ltb-true a b e)
     go false e = inr (ltb-false a b e)
 
+-- an entry's interval, where a list is dropped up to the entry
+pub interval-at : (v : List ℕ) (at : ℕ) → interval (drop at v) ≡ at32 v (at + 3)
+unfolding interval at32 at16
+interval-at v at = simp (getD-drop, add-assoc)
+
 -- the entries of a block, as its list begins with them
 module _ (b : List ℕ) (n : ℕ) (h : length b ≡ 22 + 7 * n) (k : ℕ) (l : k < n) where
   abbrev from-entry : List ℕ
   from-entry = drop (7 * k) (listOf b)
 
-  octet-there : (j i : ℕ) → j < 7 → 14 + 7 * k + j ≡ i → octet from-entry j ≡ octet b i
-  unfolding listOf
-  octet-there j i m e = rw (getD-drop, part-octet b 14 (length b - 22) (7 * k + j) (omega arith)) (ap (λ (p : ℕ). octet b p) (omega arith))
-
   states-there : states from-entry ≡ octet b (16 + 7 * k)
-  unfolding states
-  states-there = octet-there 2 _ (omega arith) (omega arith)
+  unfolding states listOf
+  states-there =
+      let e : 14 + (7 * k + 2) ≡ 16 + 7 * k = omega arith in
+      rw (getD-drop, part-octet b 14 (length b - 22) (7 * k + 2) (omega arith), e)
 
   interval-there : interval from-entry ≡ lasts b k
-  unfolding interval
+  unfolding listOf
   interval-there =
-      let a : octet from-entry 3 ≡ octet b (17 + 7 * k) = octet-there 3 _ (omega arith) (omega arith) in
-      let c : octet from-entry 4 ≡ octet b (17 + 7 * k + 1) = octet-there 4 _ (omega arith) (omega arith) in
-      let d : octet from-entry 5 ≡ octet b (17 + 7 * k + 2) = octet-there 5 _ (omega arith) (omega arith) in
-      let e : octet from-entry 6 ≡ octet b (17 + 7 * k + 3) = octet-there 6 _ (omega arith) (omega arith) in
-      four-octets from-entry 3 ∙ rw (a, c, d, e)
+      interval-at (listOf b) (7 * k)
+      ∙ four-octets (listOf b) (7 * k + 3)
+      ∙ four-part b 14 (length b - 22) (7 * k + 3) (17 + 7 * k) (omega arith) (omega arith)
 
   next-there : drop 7 from-entry ≡ drop (7 * suc k) (listOf b)
   next-there =

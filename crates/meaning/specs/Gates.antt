@@ -44,7 +44,7 @@ gatesChecks m = check 1 (sound m) (check 15 (present m commit) passed)
 unfoldable pub gates : List ℕ → ℤ → Gates
 gates m instant = whenPassed (firstFailed (gatesChecks m)) (gatesOf (body m commit) instant) refused
 
--- its number
+-- the number of an answer: 0 unless it is refused
 unfoldable pub gatesNumber : Gates → ℕ
 gatesNumber (refused n) = n
 gatesNumber notStarted = 0
