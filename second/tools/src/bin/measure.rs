@@ -1,5 +1,5 @@
-//! Prints one table: two bridges timed on the same large streams, two desks and two rigs likewise, a
-//! call's stack, a library's code, the gate's time.
+//! Prints one table: two bridges timed on the same large streams, two desks and two rigs likewise, the
+//! stack of calls, a library's code, the gate's time.
 
 use std::io::{self, ErrorKind};
 use std::process::ExitCode;

@@ -20,22 +20,27 @@ use crate::arguments::number;
 use crate::traffic::measured::{Limit, Stream, STREAMS};
 use fault::told;
 use gate::Gate;
+use stack::Deepest;
 use table::{Figure, Row, Table};
 use time::SEED;
 
 /// How the program is called.
 pub const USAGE: &str =
-    "usage: measure [--worst] [--desk DESK SECOND] [--rig RIG SECOND] [--stack CALL LIBRARY] \
+    "usage: measure [--worst] [--desk DESK SECOND] [--rig RIG SECOND] [--stack CALLS LIBRARY] \
 [--gate LOG] BRIDGE SECOND [COUNT]; BRIDGE is the path of the bridge that is measured, SECOND of the \
 one that it is measured against, DESK and RIG and their SECOND likewise of desks and of rigs, COUNT \
 how many of the shortest messages a stream has (1000000 if left out), LIBRARY a static library for \
-x86-64 that has the message call under the name CALL, LOG what a gate printed; --worst also searches \
-for the worst message; the status is 1 if a figure is over its limit";
+x86-64, CALLS the name of its message call or several names joined by commas without blanks, none \
+empty and none twice, of which the first is the message call's and the others are those of its other \
+calls, LOG what a gate printed; --worst also searches for the worst message; the status is 1 if a \
+figure is over its limit";
 
 /// Messages of a stream where no count is given.
 const COUNT: u64 = 1_000_000;
 /// Octets of stack that a message call may take: the working copy, and all else.
-const STACK: [i64; 2] = [2_100, 1_024];
+const STACK: [i64; 2] = [2_100, 512];
+/// Octets of stack that each of the other calls may take.
+const OTHERS: i64 = 256;
 /// Seconds that the gate may take.
 const GATE: f64 = 600.0;
 
@@ -52,19 +57,39 @@ pub struct Plan {
     pub desks: Option<[String; 2]>,
     /// Paths of the rig and of the second one.
     pub rigs: Option<[String; 2]>,
-    /// The call whose stack is to be read, in a library whose code is to be counted.
+    /// The calls whose stack is to be read, in a library whose code is to be counted.
     pub stack: Option<Exported>,
     /// Path of what a gate printed.
     pub gate: Option<String>,
 }
 
-/// A call in a library.
+/// Calls in a library.
 #[derive(Debug, PartialEq, Eq)]
 pub struct Exported {
-    /// Its name.
-    pub call: String,
+    /// The name of the message call.
+    pub message: String,
+    /// The names of other calls; there may be none.
+    pub others: Vec<String>,
     /// The library's path.
     pub library: String,
+}
+
+impl Exported {
+    /// The calls whose names stand between commas, the message call first. None if a name is empty or
+    /// stands twice.
+    fn named(calls: &str, library: &str) -> Option<Exported> {
+        let names: Vec<String> = calls.split(',').map(String::from).collect();
+        let mut places = names.iter().enumerate();
+        if places.any(|(place, name)| name.is_empty() || names[..place].contains(name)) {
+            return None;
+        }
+        let (message, others) = names.split_first()?;
+        Some(Exported {
+            message: message.clone(),
+            others: others.to_vec(),
+            library: path_of(library),
+        })
+    }
 }
 
 impl Plan {
@@ -79,7 +104,8 @@ impl Plan {
         Ok(plan)
     }
 
-    /// Takes the option in front, if there is one that was not there before; the words behind it.
+    /// Takes the option in front, if there is one that is right and was not there before; the words
+    /// behind it.
     fn take_option<'a>(&mut self, words: &'a [String]) -> Option<&'a [String]> {
         let pair = |program, second| Some([program, second].map(|path: &String| path_of(path)));
         match words {
@@ -95,11 +121,8 @@ impl Plan {
                 self.rigs = pair(rig, second);
                 Some(behind)
             }
-            [word, call, library, behind @ ..] if word == "--stack" && self.stack.is_none() => {
-                self.stack = Some(Exported {
-                    call: call.clone(),
-                    library: path_of(library),
-                });
+            [word, calls, library, behind @ ..] if word == "--stack" && self.stack.is_none() => {
+                self.stack = Some(Exported::named(calls, library)?);
                 Some(behind)
             }
             [word, log, behind @ ..] if word == "--gate" && self.gate.is_none() => {
@@ -178,37 +201,59 @@ fn time_rows(plan: &Plan) -> io::Result<Vec<Row>> {
     Ok(rows)
 }
 
-/// The stack of the message call, and the code of all calls.
-fn library_rows(exported: &Exported) -> io::Result<[Row; 2]> {
-    let Exported { call, library } = exported;
+/// The stack of the message call, that of the other calls if there are any, and the code of all calls.
+fn library_rows(exported: &Exported) -> io::Result<Vec<Row>> {
+    let library = &exported.library;
     let listing = library::listing(library)?;
     let cannot = |what: &str, why: String| {
         let what = format!("the {what} cannot be read off {library:?}: {why}");
         io::Error::other(what)
     };
-    let deepest = stack::deepest(call, &listing).map_err(|why| cannot("stack", why))?;
+    let deepest = |call| stack::deepest(call, &listing).map_err(|why| cannot("stack", why));
+    let message = deepest(&exported.message)?;
+    let others = exported.others.iter();
+    let others = others.map(|call| Ok((call.as_str(), deepest(call)?)));
+    let others: Vec<_> = others.collect::<io::Result<_>>()?;
     let octets = |name| library::octets(name, &listing).map_err(|why| cannot("code", why));
     let (code, constants) = (octets(".text")?, octets(".rodata")?);
     if code == 0 {
         return Err(cannot("code", "it has no section of text".into()));
     }
-    let [copy, beside] = STACK;
-    let stack = Figure::Octets(deepest.octets(), Some(copy + beside));
-    let limit = format!("limit {copy} for the working copy and {beside} beside it");
-    let sections = "all sections of text for x86-64, without memcpy and memset";
+    let sections = "all sections of text for x86-64, without memcpy, memmove and memset";
     let constants = format!("{sections}; constants take {constants} octets more");
-    Ok([
-        Row::plain(
-            "stack of the message call",
-            stack,
-            format!("{limit}; {deepest}"),
-        ),
-        Row::plain(
-            "code of the five calls",
-            Figure::Octets(code, None),
-            constants,
-        ),
-    ])
+    let code = Figure::Octets(code, None);
+    let mut rows = vec![message_row(&message)];
+    rows.extend(others_row(&others));
+    rows.push(Row::plain("code of the five calls", code, constants));
+    Ok(rows)
+}
+
+/// The stack of the message call.
+fn message_row(deepest: &Deepest) -> Row {
+    let [copy, beside] = STACK;
+    let limit = format!("limit {copy} for the working copy and {beside} beside it");
+    Row::plain(
+        "stack of the message call",
+        Figure::Octets(deepest.octets(), Some(copy + beside)),
+        format!("{limit}; {deepest}"),
+    )
+}
+
+/// The stack of the deepest of the other calls, each given by its name and where it is deepest; none if
+/// there are no others.
+fn others_row(others: &[(&str, Deepest)]) -> Option<Row> {
+    // From behind, since the last of several that are equally deep is had.
+    let ways = others.iter().rev().map(|(_, way)| way);
+    let deepest = ways.max_by_key(|way| way.octets())?;
+    let each = others
+        .iter()
+        .map(|(name, way)| format!("{name} {}", way.octets()));
+    let each = each.collect::<Vec<_>>().join(", ");
+    Some(Row::plain(
+        "stack of the other calls, at most",
+        Figure::Octets(deepest.octets(), Some(OTHERS)),
+        format!("limit {OTHERS} for each; {each}; {deepest}"),
+    ))
 }
 
 fn gate_row(path: &str) -> io::Result<Row> {

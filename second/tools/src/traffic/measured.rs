@@ -56,7 +56,7 @@ const READ_SET: Act = Act::Read(Name::Same);
 const READ_SUMS: Act = Act::Read(Name::Is(0x8001));
 
 /// All of them.
-pub static STREAMS: [Stream; 24] = [
+pub static STREAMS: [Stream; 25] = [
     Stream {
         word: "mixed",
         what: "by turns 1 read, 16 reads, set and read",
@@ -196,6 +196,14 @@ pub static STREAMS: [Stream; 24] = [
         one_in: 1,
         memory: Memory::Full,
         turns: &[&[(1, Act::WrongCommit)]],
+    },
+    Stream {
+        word: "commits",
+        what: "by turns 1 commit, right and wrong",
+        limit: Limit::Schedules,
+        one_in: 1,
+        memory: Memory::Full,
+        turns: &[&[(1, Act::Commit)], &[(1, Act::WrongCommit)]],
     },
     Stream {
         word: "commits-226",

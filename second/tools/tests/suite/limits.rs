@@ -13,7 +13,7 @@ use crate::{gate, stack};
 
 /// A call that takes as many octets of stack as it may, and one that takes 8 more.
 fn calls() -> [String; 2] {
-    [3_124 - 40 - 72 + 40, 3_124 - 40 - 72 + 48].map(|octets: i32| {
+    [2_612 - 40 - 72 + 40, 2_612 - 40 - 72 + 48].map(|octets: i32| {
         let deeper = format!("${octets}, %rsp");
         assert!(stack::LLVM.contains("$40, %rsp"));
         stack::LLVM.replace("$40, %rsp", &deeper)
@@ -21,7 +21,7 @@ fn calls() -> [String; 2] {
 }
 
 /// The PATH with what stands in for other programs.
-fn path() -> String {
+pub fn path() -> String {
     format!("{TOOLS}:{}", env::var("PATH").unwrap())
 }
 
@@ -37,7 +37,7 @@ fn a_table_is_aligned() {
     let table = Table(vec![
         row("a", ratio, Some([0.1, 0.3]), "b"),
         row("äöü", Figure::None, None, "some words"),
-        row("c", Figure::Octets(3_125, Some(3_124)), None, ""),
+        row("c", Figure::Octets(2_613, Some(2_612)), None, ""),
         row("d", Figure::Octets(7, None), None, ""),
         row("e", Figure::Ratio(None, 1.0), None, ""),
     ]);
@@ -46,7 +46,7 @@ fn a_table_is_aligned() {
 | ---- | ---------------: | ----------: | ---------------------: | ---------- |
 | a    |             0.33 |       12.50 |     0.10 (second 0.30) | b          |
 | äöü  |                  |             |                        | some words |
-| c    | 3125 octets over | 3124 octets |                        |            |
+| c    | 2613 octets over | 2612 octets |                        |            |
 | d    |         7 octets |             |                        |            |
 | e    |                - |        1.00 |                        |            |
 ";
@@ -64,9 +64,9 @@ fn a_figure_is_held_to_its_limit_as_it_is_shown() {
         (ratio(1.206), true),
         (ratio(70.0), true),
         (Figure::Ratio(None, 1.2), false),
-        (Figure::Octets(3_124, Some(3_124)), false),
-        (Figure::Octets(3_125, Some(3_124)), true),
-        (Figure::Octets(3_125, None), false),
+        (Figure::Octets(2_612, Some(2_612)), false),
+        (Figure::Octets(2_613, Some(2_612)), true),
+        (Figure::Octets(2_613, None), false),
         (Figure::None, false),
     ] {
         assert_eq!(figure.is_over(), over, "{figure:?}");
@@ -83,10 +83,10 @@ fn what_is_over_its_limit_is_marked_and_gives_status_1() {
     let [soon, late] = [("soon.log", gate::LOG), ("late.log", &late)];
     let [soon, late] = [soon, late].map(|(name, log)| file(name, log.as_bytes()));
     for (library, log, figures, status) in [
-        (&most, &soon, ["3124 octets", "0.15"], 0),
-        (&over, &soon, ["3132 octets over", "0.15"], 1),
-        (&most, &late, ["3124 octets", "1.01 over"], 1),
-        (&over, &late, ["3132 octets over", "1.01 over"], 1),
+        (&most, &soon, ["2612 octets", "0.15"], 0),
+        (&over, &soon, ["2620 octets over", "0.15"], 1),
+        (&most, &late, ["2612 octets", "1.01 over"], 1),
+        (&over, &late, ["2620 octets over", "1.01 over"], 1),
     ] {
         let words = ["--stack", "call", library, "--gate", log, &script, *BRIDGE];
         let output = on_path(&path(), &words);
@@ -95,7 +95,7 @@ fn what_is_over_its_limit_is_marked_and_gives_status_1() {
             panic!("{rows:?}");
         };
         assert_eq!([stack[1], gate[1]], figures);
-        assert_eq!([stack[2], gate[2]], ["3124 octets", "1.00"]);
+        assert_eq!([stack[2], gate[2]], ["2612 octets", "1.00"]);
         assert_eq!(output.status.code(), Some(status));
     }
 }
@@ -142,12 +142,26 @@ fn script(name: &str, listing: &str) -> Output {
     output
 }
 
+/// A listing whose `call` is the message call of `./measure`, with the other calls that it names.
+fn probed(listing: String) -> String {
+    let message = listing.replace("call>", "probe_message>");
+    let others = ["local_value", "build", "expiry", "make_fresh"].map(|call| {
+        let name = format!("probe_{call}");
+        stack::function(&name, &["push %rax", "pop %rax", "ret"])
+    });
+    message + &others.concat()
+}
+
 #[test]
 fn the_status_comes_through_the_script() {
-    let [most, over] = calls().map(|listing| listing.replace("call>", "probe_message>"));
-    let figure = |output: &Output| rows(output)[rows(output).len() - 2][1].to_owned();
+    let [most, over] = calls().map(probed);
+    let figure = |output: &Output| rows(output)[rows(output).len() - 3][1].to_owned();
     let output = script("within", &most);
-    assert_eq!(figure(&output), "3124 octets");
+    assert_eq!(figure(&output), "2612 octets");
+    let others = rows(&output)[rows(&output).len() - 2];
+    let each = "probe_local_value 16, probe_build 16, probe_expiry 16, probe_make_fresh 16";
+    let from = format!("limit 256 for each; {each}; probe_local_value 16");
+    assert_eq!(others[1..], ["16 octets", "256 octets", "", &from]);
     let of = |program: &str| {
         let begin = format!("time of {program} to the second's: ");
         let is = |row: &&[&str; 5]| row[0].starts_with(&begin);
@@ -156,7 +170,7 @@ fn the_status_comes_through_the_script() {
     assert_eq!([of("desk"), of("rig")], [3, 2]);
     assert_eq!(output.status.code(), Some(0));
     let output = script("beyond", &over);
-    assert_eq!(figure(&output), "3132 octets over");
+    assert_eq!(figure(&output), "2620 octets over");
     assert_eq!(output.status.code(), Some(1));
     // What cannot be read at all is told from that by its status.
     let output = script("unread", "");

@@ -9,6 +9,7 @@ mod limits;
 mod measure;
 mod measured_rigs;
 mod not_served_streams;
+mod other_calls;
 mod process;
 mod shapes;
 mod stack;

@@ -94,8 +94,8 @@ fn one_table_has_all_that_is_asked_for() {
     let library = file("asked.a", stack::LLVM.as_bytes());
     let log = file("asked.log", gate::LOG.as_bytes());
     let path = format!("{TOOLS}:{}", env::var("PATH").unwrap());
-    let mut words = vec!["--worst", "--stack", "call", &library, "--gate", &log];
-    words.extend([*BRIDGE, *BRIDGE, "300"]);
+    let mut words = vec!["--worst", "--stack", "call,part::deep", &library];
+    words.extend(["--gate", &log, *BRIDGE, *BRIDGE, "300"]);
     let output = on_path(&path, &words);
     let rows = rows(&output);
     for (row, stream) in rows.iter().zip(&STREAMS) {
@@ -115,8 +115,9 @@ fn one_table_has_all_that_is_asked_for() {
     let rest = rest.iter();
     let rest: Vec<String> = rest.map(|cells| cells.join("; ")).collect();
     let expected = "\
-stack of the message call; 112 octets; 3124 octets; ; limit 2100 for the working copy and 1024 beside it; call 72, part::deep 40
-code of the five calls; 59 octets; ; ; all sections of text for x86-64, without memcpy and memset; constants take 16 octets more
+stack of the message call; 112 octets; 2612 octets; ; limit 2100 for the working copy and 512 beside it; call 72, part::deep 40
+stack of the other calls, at most; 40 octets; 256 octets; ; limit 256 for each; part::deep 40; part::deep 40
+code of the five calls; 59 octets; ; ; all sections of text for x86-64, without memcpy, memmove and memset; constants take 16 octets more
 time of the gate to ten minutes; 0.15; 1.00; ; 90 seconds; of 70 seconds of work 2 proofs 0.41, 3 edits 0.59; dearest crates bridge 0.76, octets 0.24";
     assert_eq!(rest.join("\n"), expected);
 }
@@ -199,17 +200,18 @@ fn arguments_of_measure() {
         desks: Some(paths("./d", "/e")),
         rigs: Some(paths("./r", "./s/t")),
         stack: Some(Exported {
-            call: "message".into(),
+            message: "message".into(),
+            others: vec!["build".into(), "expiry".into()],
             library: "./-x.a".into(),
         }),
         gate: Some("log".into()),
     };
     assert_eq!(
-        plan("--worst --desk d /e --rig r s/t --stack message -x.a --gate log ../a -b/c 7"),
+        plan("--worst --desk d /e --rig r s/t --stack message,build,expiry -x.a --gate log ../a -b/c 7"),
         Ok(full())
     );
     assert_eq!(
-        plan("--gate log --rig r s/t --stack message -x.a --worst --desk d /e ../a -b/c 7"),
+        plan("--gate log --rig r s/t --stack message,build,expiry -x.a --worst --desk d /e ../a -b/c 7"),
         Ok(full())
     );
 }
@@ -247,7 +249,7 @@ fn wrong_use_of_measure() {
 }
 
 /// The line on standard error of a measurement that is given up, and prints nothing else.
-fn given_up(output: &Output) -> &str {
+pub fn given_up(output: &Output) -> &str {
     assert_eq!(output.status.code(), Some(2));
     assert_eq!(text(&output.stdout), "");
     let line = text(&output.stderr).strip_prefix("measure: ").unwrap();
@@ -283,6 +285,7 @@ fn files_that_tell_nothing() {
     let unknown = stack(&path, "calls", &library);
     let why = format!("the stack cannot be read off {library:?}: it has no function calls");
     assert_eq!(unknown, why);
+    assert_eq!(stack(&path, "call,part::deep,calls", &library), why);
     let bare = file("bare.a", stack::LLVM.replace(" .text", " .data").as_bytes());
     let why = format!("the code cannot be read off {bare:?}: it has no section of text");
     assert_eq!(stack(&path, "call", &bare), why);

@@ -109,7 +109,7 @@ fn way(functions: &[(&str, i64)]) -> Result<Deepest, String> {
 }
 
 /// A function of the given instructions, at 0, 1, 2 and so on; relocations stand behind theirs.
-fn function(name: &str, instructions: &[&str]) -> String {
+pub fn function(name: &str, instructions: &[&str]) -> String {
     let mut text = format!("\n0000000000000000 <{name}>:\n");
     let mut at = 0;
     for instruction in instructions {

@@ -89,7 +89,7 @@ fn each_stream_is_answered_as_its_row_says() {
     // Messages of several kinds by turns, and empty ones, have tests of their own.
     let all = STREAMS.iter().map(|stream| stream.word);
     let tested = expected.iter().map(|(word, _)| *word);
-    let tested: BTreeSet<&str> = tested.chain(["mixed", "empty"]).collect();
+    let tested: BTreeSet<&str> = tested.chain(["mixed", "empty", "commits"]).collect();
     assert_eq!(all.clone().collect::<BTreeSet<_>>(), tested);
     assert_eq!(all.count(), tested.len(), "a word stands twice");
 }
@@ -154,6 +154,23 @@ fn commits_are_right_or_wrong() {
     }
     for reply in replies("commits-226") {
         assert!(reply.updates.iter().all(|update| *update == sums[0]));
+    }
+}
+
+#[test]
+fn commits_are_right_and_wrong_by_turns() {
+    let sums = &replies("sums")[0].values;
+    let right = replies("commit");
+    let wrong = replies("wrong-commit");
+    for (turn, reply) in replies("commits").iter().enumerate() {
+        if turn % 2 == 0 {
+            assert_eq!((counts(reply), &reply.updates), ([0, 1, 0], sums));
+            assert_eq!(*reply, right[turn]);
+        } else {
+            assert_eq!(counts(reply), [0, 0, 1]);
+            assert_eq!(reply.update_errors, [(0x8001, 2)]);
+            assert_eq!(*reply, wrong[turn]);
+        }
     }
 }
 
