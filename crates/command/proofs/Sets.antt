@@ -1,24 +1,21 @@
 -- What a set and a read find: lengths of values that sound memory holds, a commit's conditions, causes by the first check that fails.
-use Prim.Native.Nat.{ℕ, zero, suc, _+_, _-_, _≤_, _<_}
-use native.Mathlib.Nat.{sub-zero}
+use Prim.Native.Nat.{ℕ, zero, suc, _-_, _≤_, _<_}
 use native.Mathlib.Omega.{arith}
-use mathlib.Core.Path.{_≡_, refl, sym, ap, _∙_}
+use mathlib.Core.Path.{_≡_, refl, sym, _∙_}
 use mathlib.Core.Logic.{_≢_}
 use mathlib.Core.Bool.{Bool, true, false, _&&_, cond, and-true, and-false}
 use mathlib.Core.List.{List}
-use lib.ListN.{length, take, length-take}
-use lib.Seq.{take-all}
+use lib.ListN.{length}
 use lib.Dec.{eqb}
 use borrow.Author.Tests.{lt-ltb, le-ltb, ne-eqb}
-use Rattle.meaning.specs.Octets.{splice, same, every}
+use Rattle.meaning.specs.Octets.{same, every}
 use Rattle.meaning.specs.Checks.{firstFailed, whenPassed}
 use Rattle.meaning.specs.Table.{rows, rowAt, place, listed, byController, entryCount, memoryLength, adminBaseTime, adminControlListLength, adminControlList, adminCycleTime, commit}
 use Rattle.meaning.specs.Block.{permits, joinedBlock, formAndFit, sums}
-use Rattle.meaning.specs.Memory.{cell, room, size, present, body, pending, store, setMarks, fourPresent, sound}
+use Rattle.meaning.specs.Memory.{present, body, pending, store, setMarks, fourPresent, sound}
 use Rattle.meaning.specs.Step.{block, commits, permitted, setChecks, stored, setMemory, subscribeMemory, unsubscribeMemory, setAnswer, readChecks, readAnswer, value, readError, update, updateError, shown}
 use Rattle.meaning.proofs.Sound.{opened, entry-of, four-at}
-use Rattle.octets.proofs.Splices.{splice-front}
-use Rattle.schedule.proofs.Blocks.{permitted-base, permitted-count, permitted-list, permitted-ratio, permitted-length}
+use Rattle.schedule.proofs.Blocks.{permitted-base, permitted-count, permitted-list, permitted-ratio}
 
 pub long-of : (m : List ℕ) → sound m ≡ true → length m ≡ memoryLength
 long-of m s = opened m s .long
@@ -29,11 +26,6 @@ unfolding present body
 body-permitted m k s h p = rw p at (entry-of m (opened m s) k h .held)
 
 -- ---- the four values of a commit
-
--- a value as long as its room is its room
-pub fills : (m : List ℕ) (k : ℕ) {r : List ℕ} → r ≡ room m k → length r ≡ rowAt k .most → length (body m k) ≡ rowAt k .most → r ≡ body m k
-unfolding body
-fills m k e l b = e ∙ sym (take-all (size (cell m k)) (room m k) (omega (arith, ap length e, l, b, length-take (size (cell m k)) (room m k))))
 
 pub one-length : (rowAt adminBaseTime .most ≡ 10) × (rowAt adminControlListLength .most ≡ 4) × (rowAt adminCycleTime .most ≡ 8)
 unfolding rowAt rows
@@ -69,11 +61,6 @@ four-lengths m p =
       ratio = permitted-ratio (body m adminCycleTime) (p .ratio) .0;
     }
 
-pub block-length : (m : List ℕ) → FourPermitted m → length (block m) ≡ 22 + length (body m adminControlList)
-unfolding block
-block-length m p =
-    permitted-length (body m adminBaseTime) (body m adminControlListLength) (body m adminControlList) (body m adminCycleTime) (p .base) (p .count) (p .list) (p .ratio)
-
 pub commit-unset : (m v : List ℕ) → fourPresent m ≡ false → commits m v ≡ false
 unfolding commits every
 commit-unset m v e = rw e
@@ -92,15 +79,6 @@ pub block-found : (m : List ℕ) {b c l r : List ℕ} → b ≡ body m adminBase
     → joinedBlock b c l r ≡ block m
 unfolding block
 block-found m hb hc hl hr = rw (hb, hc, hl, hr)
-
--- a block at the start of a room, as it is lent on
-pub block-lent : (old b : List ℕ) {room : List ℕ} {n : ℕ} → n ≡ length b → room ≡ splice old 0 b → take (n - 0) room ≡ b
-block-lent old b e f = rw (sub-zero, e, f) (splice-front old b)
-
--- a block that a commit stores fits its room
-pub block-in-room : (b : List ℕ) → length b ≤ 470 → length b ≤ rowAt commit .most
-unfolding rowAt rows
-block-in-room b h = h
 
 -- ---- a read
 

@@ -54,12 +54,10 @@ fn put_commit(m: &mut [u8], v: &[u8]) -> bool
     if !schedule::fit_together(count, list, ratio) {
         return false;
     }
-    let mut joined = [0u8; schedule::BLOCK_MOST];
-    let n = schedule::join(base, count, list, ratio, &mut joined);
-    if !schedule::sums_agree(&joined[0..n], v) {
+    if !schedule::sums_agree(base, count, list, ratio, v) {
         return false;
     }
-    memory::store(m, table::COMMIT, &joined[0..n]);
+    memory::store_block(m);
     true
 }
 

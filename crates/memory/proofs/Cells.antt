@@ -7,7 +7,7 @@ use mathlib.Core.List.{List, [], _∷_, _++_}
 use lib.ListN.{length, take, set}
 use borrow.Rule.Slice.PartMut.{putMid}
 use Rattle.meaning.specs.Octets.{be16, splice, zeros}
-use Rattle.meaning.specs.Table.{rowAt, roomAt}
+use Rattle.meaning.specs.Table.{rows, rooms, rowAt, roomAt}
 use Rattle.meaning.specs.Memory.{bit, flags, cellOf, roomOf, putCell, putRoom, put, absent, fresh}
 use Rattle.meaning.proofs.Lists.{splice-length}
 use Rattle.meaning.proofs.Places.{length-cellOf, length-roomOf}
@@ -38,8 +38,8 @@ room-back m s v k a b w ha hb hw h e =
     let f : s ≡ roomOf k v = e ∙ ap (λ (j : ℕ). v ++ zeros (j - length v)) n in
     lent-back m s a (a + b) (omega arith) (ap length f ∙ omega (arith, length-roomOf k v h, hb)) ∙ rw (f, ha)
 
--- cleared, named, and the two values that fresh memory holds put in
+-- cleared, named, and of the two values that fresh memory holds the one octet written that is not 0
 pub fresh-made : (m : List ℕ) {a b d e : List ℕ} → length m ≡ 2100 → a ≡ take 0 m ++ zeros (length m - 0)
-    → b ≡ absent 19 a → d ≡ put b 1 1 (0 ∷ []) → e ≡ put d 7 1 (0 ∷ 0 ∷ 0 ∷ 64 ∷ []) → e ≡ fresh
-unfolding fresh flags bit be16
+    → b ≡ absent 19 a → d ≡ putCell b 1 1 1 → e ≡ putCell d 7 1 4 → set e 602 64 ≡ fresh
+unfolding fresh put putRoom putCell roomOf cellOf absent splice rowAt roomAt rooms rows flags bit be16
 fresh-made m h p q r s = rw (s, r, q, p, sub-zero, h)

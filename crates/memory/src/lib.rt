@@ -5,8 +5,9 @@ ghost use mathlib.Core.Path.{_≡_};
 ghost use mathlib.Core.List.{_∷_, _++_};
 ghost use lib.ListN.{length};
 ghost use Rattle.meaning.specs.Octets.{be16};
-ghost use Rattle.meaning.specs.Table.{entryCount, memoryLength, rowAt};
+ghost use Rattle.meaning.specs.Table.{entryCount, memoryLength, rowAt, adminBaseTime, adminControlListLength, adminCycleTime, commit};
 ghost use Rattle.meaning.specs.Memory.{cell, room, isPresent, isSubscribed, isPending, size, present, subscribed, pending, body, waiting, expiries, bit, flags, putCell, putRoom, put, store, setMarks, setTimer, fourPresent, absent, fresh};
+ghost use Rattle.meaning.specs.Step.{block};
 
 // ---- what memory says of a parameter
 
@@ -188,6 +189,23 @@ pub fn store(m: &mut [u8], k: usize, v: &[u8])
     put(m, k, f, v);
 }
 
+// The block that the four values make, stored as what runs, from their rooms to its own. The rooms of the first three adjoin and the
+// first two are filled, so these stand in memory as they do in the block.
+pub fn store_block(m: &mut [u8])
+    requires { ⌜ (length (now m) ≡ memoryLength) × (length (body (now m) adminBaseTime) ≡ 10) × (length (body (now m) adminControlListLength) ≡ 4) × (length (body (now m) adminCycleTime) ≡ 8) ⌝ }
+    ensures { λ _. ⌜ now (m .exit) ≡ store (now (m .entry)) commit (block (now (m .entry))) ⌝ }
+{
+    let list = body(m, table::ADMIN_CONTROL_LIST).len();
+    let n = table::LIST_AT - table::BASE_AT + list;
+    let marked = subscribed(m, table::COMMIT);
+    let due = pending(m, table::COMMIT);
+    let f = flags(true, marked, due);
+    put_cell(m, table::COMMIT, f, n + table::CYCLE_LENGTH);
+    let at = octets::copy_within(m, table::BASE_AT, n, table::RUNNING_AT);
+    let end = octets::copy_within(m, table::CYCLE_AT, table::CYCLE_LENGTH, at);
+    octets::clear_from(&mut m[end..table::MEMORY_LENGTH], 0);
+}
+
 // Other marks, presence and value as they were.
 pub fn set_marks(m: &mut [u8], k: usize, s: bool, q: bool)
     requires { ⌜ (length (now m) ≡ memoryLength) × (k < entryCount) ⌝ }
@@ -219,15 +237,14 @@ fn name_cells(m: &mut [u8])
     }
 }
 
-// Fresh memory.
+// Fresh memory. Its two values are 0 and 64; of their octets only the last is not 0.
 pub fn make_fresh(m: &mut [u8])
     requires { ⌜ length (now m) ≡ memoryLength ⌝ }
     ensures { λ _. ⌜ now (m .exit) ≡ fresh ⌝ }
 {
     octets::clear_from(m, 0);
     name_cells(m);
-    let off = [0u8; 1];
-    put(m, table::GATE_ENABLED, table::PRESENT, &off);
-    let most = [0u8, 0, 0, 64];
-    put(m, table::SUPPORTED_LIST_MAX, table::PRESENT, &most);
+    put_cell(m, table::GATE_ENABLED, table::PRESENT, 1);
+    put_cell(m, table::SUPPORTED_LIST_MAX, table::PRESENT, 4);
+    m[table::MAX_AT + 3] = 64;
 }

@@ -1,15 +1,16 @@
--- Splices, one for each way in which octets are written: one store or two, a part lent on, one write after another, two apart.
-use Prim.Native.Nat.{ℕ, _+_, _-_, _≤_}
+-- Splices, one for each way in which octets are written: one store or two, a part lent on, one write after another, two apart, a part
+-- behind itself.
+use Prim.Native.Nat.{ℕ, _+_, _-_, _≤_, _<_}
 use native.Mathlib.Nat.{add-zero}
 use native.Mathlib.Omega.{arith}
 use native.Mathlib.Numerals.{add-one}
 use mathlib.Core.Path.{_≡_, refl, sym, ap, _∙_}
 use mathlib.Core.List.{List, [], _∷_, _++_, append-assoc, append-nil}
 use lib.ListN.{length, take, drop, set, length-append, take-append-drop, drop-of-length-le}
-use lib.Seq.{take-at, take-append-le, drop-append-le, drop-append-add, drop-drop, length-take-le, take-length, sets-eq}
+use lib.Seq.{take-at, take-append-le, drop-append-le, drop-append-add, drop-drop, length-take-le, take-length, drop-cons, sets-eq}
 use borrow.Rule.Slice.PartMut.{putMid, post-is}
-use Rattle.meaning.specs.Octets.{part, splice}
-use Rattle.meaning.proofs.Lists.{splice-length}
+use Rattle.meaning.specs.Octets.{octet, part, splice}
+use Rattle.meaning.proofs.Lists.{length-part, octet-part, splice-length, splice-before}
 
 -- as many octets written as there are: nothing is left of the old ones
 pub splice-all : (s v : List ℕ) → length v ≡ length s → splice s 0 v ≡ v
@@ -87,6 +88,33 @@ splice-comm s v w i j h k =
     let a : splice s i v ≡ splice t i v ++ d = ap (λ (l : List ℕ). splice l i v) (sym c) ∙ splice-left t d v i n in
     let b : splice s j w ≡ t ++ (w ++ drop (length w) d) = ap (λ (l : List ℕ). splice l j w) (sym c) ∙ splice-right t d w j f in
     rw (a, b) (splice-right (splice t i v) d w j (splice-length t i v n ∙ f) ∙ sym (splice-left t (w ++ drop (length w) d) v i n))
+
+-- ---- a part written once more, behind itself
+
+-- a part by its first octet
+part-cons : (s : List ℕ) (i n : ℕ) → i < length s → part s i (n + 1) ≡ octet s i ∷ part s (i + 1) n
+unfolding part
+part-cons s i n h = rw (add-one, add-one, drop-cons s i 0 h)
+
+-- one octet of it more, from the last to the first, read from where it was written
+pub one-more-within : (s : List ℕ) (from at n : ℕ) {t : List ℕ} → from < at → at + 1 + n ≤ length s → t ≡ splice s (at + 1) (part s (from + 1) n)
+    → set t at (octet t from) ≡ splice s at (part s from (n + 1))
+one-more-within s from at n {t} h k e =
+    let w = part s (from + 1) n in
+    let x = octet s from in
+    let l : length w ≡ n = length-part s (from + 1) n (omega arith) in
+    let f : at + 1 + length w ≤ length s = omega (arith, l) in
+    let o : octet t from ≡ x =
+    rw e
+    (sym (octet-part (splice s (at + 1) w) from)
+    ∙ ap (λ (p : List ℕ). octet p 0) (splice-before s (at + 1) w f from 1 (omega arith))
+    ∙ octet-part s from) in
+    let g : length t ≡ length s = ap length e ∙ splice-length s (at + 1) w f in
+    rw (o, part-cons s from n (omega arith))
+    (one-store t at x (omega (arith, g))
+    ∙ ap (λ (u : List ℕ). splice u at (x ∷ [])) e
+    ∙ sym (splice-comm s (x ∷ []) w at (at + 1) (omega arith) f)
+    ∙ splice-splice s (x ∷ []) w at (omega arith))
 
 -- ---- parts lent
 

@@ -5,7 +5,7 @@ ghost use mathlib.Core.Path.{_≡_};
 ghost use mathlib.Core.Bool.{false};
 ghost use mathlib.Core.List.{_++_};
 ghost use lib.ListN.{length, take};
-ghost use Rattle.meaning.specs.Octets.{at16, at32, be16, splice, zeros, blank};
+ghost use Rattle.meaning.specs.Octets.{at16, at32, be16, part, splice, zeros, blank};
 ghost use Rattle.octets.specs.Writing.{Wrote};
 
 // An octet as a number.
@@ -63,7 +63,8 @@ pub fn fill(room: &mut [u8], value: &[u8])
     clear_from(room, value.len());
 }
 
-// Octets made the same as others, of which there are as many; nothing is done where they are the same already.
+// Octets made the same as others, of which there are as many; nothing is done where they are the same already. The room says how
+// many: of an array the compiler then knows that all of it is written, and does not write zeros there first.
 pub fn renew(room: &mut [u8], src: &[u8], differ: bool)
     requires { ⌜ (length (now room) ≡ length (now src)) × (differ ≡ false → now room ≡ now src) ⌝ }
     ensures { λ _. ⌜ now (room .exit) ≡ now (src .entry) ⌝ }
@@ -71,7 +72,7 @@ pub fn renew(room: &mut [u8], src: &[u8], differ: bool)
     if !differ {
         return;
     }
-    bytes::copy(src, room);
+    bytes::copy(&src[0..room.len()], room);
 }
 
 // Octets written at a place; the place after them.
@@ -82,6 +83,20 @@ pub fn append(out: &mut [u8], at: usize, src: &[u8]) -> usize
     let end = at + src.len();
     bytes::copy(src, &mut out[at..end]);
     end
+}
+
+// Octets written once more at a place behind them; the place after them. From the last to the first, so that the compiler sees that it
+// may move them all at once.
+pub fn copy_within(s: &mut [u8], from: usize, n: usize, at: usize) -> usize
+    requires { ⌜ (from + n ≤ at) × (at + n ≤ length (now s)) ⌝ }
+    ensures { λ r. ⌜ Wrote (now (s .entry)) at (part (now (s .entry)) from n) r (now (s .exit)) ⌝ }
+{
+    let mut i = n;
+    while 0 < i {
+        i -= 1;
+        s[at + i] = s[from + i];
+    }
+    at + n
 }
 
 // Whether every octet is 0: all of them joined by `|`, a load and an operation for 16 octets.

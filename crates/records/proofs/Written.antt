@@ -10,16 +10,16 @@ use Rattle.meaning.specs.Octets.{be16, flat, splice}
 use Rattle.meaning.specs.Table.{row, nobody, free, rows, rowAt}
 use Rattle.meaning.specs.Reply.{heldOctets, shortOctets, failedOctets, allNames}
 use Rattle.meaning.proofs.Lists.{flat-append}
+use Rattle.octets.specs.Writing.{Wrote}
 use Rattle.octets.proofs.Splices.{one-store, then}
 use Rattle.records.proofs.Lengths.{nameOctets, some-names-length}
 
-pub held-written : (s v : List ℕ) (at name : ℕ) {s₁ s₂ s₃ : List ℕ} → at + (4 + length v) ≤ length s → s₁ ≡ splice s at (be16 name)
-    → s₂ ≡ splice s₁ (at + 2) (be16 (length v)) → s₃ ≡ splice s₂ (at + 4) v
-    → s₃ ≡ splice s at (heldOctets (record { name = name; value = v }))
+-- a value behind its head
+pub held-written : (s v : List ℕ) (at name : ℕ) {p q : ℕ} {s₁ s₂ : List ℕ} → at + (4 + length v) ≤ length s → Wrote s at (be16 name ++ be16 (length v)) p s₁
+    → Wrote s₁ p v q s₂ → Wrote s at (heldOctets (record { name = name; value = v })) q s₂
 unfolding heldOctets be16
-held-written s v at name h e₁ e₂ e₃ =
-    let a₂ = then s (be16 name) (be16 (length v)) at (at + 2) (omega arith) refl e₁ e₂ in
-    then s (be16 name ++ be16 (length v)) v at (at + 4) (omega arith) refl a₂ e₃
+held-written s v at name h e f =
+    (omega (arith, e .0, f .0), then s (be16 name ++ be16 (length v)) v at _ (omega arith) (e .0) (e .1) (f .1))
 
 -- name and one octet: a failed record, and a short one up to its value
 octet-behind : (s : List ℕ) (at name x : ℕ) {s₁ : List ℕ} → at + 3 ≤ length s → length s₁ ≡ length s → s₁ ≡ splice s at (be16 name)

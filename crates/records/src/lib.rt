@@ -1,21 +1,30 @@
 // The records of replies and notifications, each written at a place of a room; every function returns the place after it.
 // What has been written are the octets that `meaning` gives for the record; the room's other octets stay.
 ghost use Prim.Native.Nat.{_+_, _≤_, _<_};
-ghost use mathlib.Core.List.{[], _∷_};
+ghost use mathlib.Core.List.{[], _∷_, _++_};
 ghost use lib.ListN.{length};
 ghost use Rattle.meaning.specs.Octets.{be16};
 ghost use Rattle.meaning.specs.Wire.{namesLength, countMost, shortMost};
 ghost use Rattle.meaning.specs.Reply.{heldOctets, shortOctets, failedOctets, allNames};
 ghost use Rattle.octets.specs.Writing.{Wrote};
 
+// What stands before a value of n octets: name (2), length (2).
+pub fn write_value_head(out: &mut [u8], at: usize, name: usize, n: usize) -> usize
+    requires { ⌜ (at + 4 ≤ length (now out)) × (name < 65536) × (n < 65536) ⌝ }
+    ensures { λ r. ⌜ Wrote (now (out .entry)) at (be16 name ++ be16 n) r (now (out .exit)) ⌝ }
+{
+    octets::put16(out, at, name);
+    octets::put16(out, at + 2, n);
+    at + wire::VALUE_HEAD
+}
+
 // A value: name (2), length (2), the value.
 pub fn write_held(out: &mut [u8], at: usize, name: usize, value: &[u8]) -> usize
     requires { ⌜ (at + (4 + length (now value)) ≤ length (now out)) × (name < 65536) × (length (now value) < 65536) ⌝ }
     ensures { λ r. ⌜ Wrote (now (out .entry)) at (heldOctets (record { name = name; value = now (value .entry) })) r (now (out .exit)) ⌝ }
 {
-    octets::put16(out, at, name);
-    octets::put16(out, at + 2, value.len());
-    octets::append(out, at + wire::VALUE_HEAD, value)
+    let from = write_value_head(out, at, name, value.len());
+    octets::append(out, from, value)
 }
 
 // A value of at most 255 octets: name (2), length (1), the value.

@@ -4,12 +4,12 @@ use native.Mathlib.Omega.{arith}
 use mathlib.Core.Path.{_≡_, refl, sym, ap, _∙_}
 use mathlib.Core.Logic.{_≢_}
 use mathlib.Core.Bool.{Bool, true, false, _&&_, and-true}
-use mathlib.Core.List.{List, [], _∷_, _++_, append-assoc}
+use mathlib.Core.List.{List, [], _∷_, _++_}
 use lib.ListN.{length, take, drop, length-append, length-drop, take-append-drop}
 use lib.Seq.{take-all, drop-drop}
 use lib.Dec.{eqb, leb}
 use borrow.Author.Tests.{eqb-true, eq-eqb, ne-eqb, leb-true, le-leb, lt-leb}
-use Rattle.meaning.specs.Octets.{octet, at16, be16, part, splice, every, same}
+use Rattle.meaning.specs.Octets.{octet, at16, be16, part, every, same}
 use Rattle.meaning.specs.Table.{rows, rowAt, adminBaseTime, adminControlListLength, adminControlList, adminCycleTime}
 use Rattle.meaning.specs.Block.{asNumber, timeOk, entriesOf, eachOk, listOk, intervals, ratioOk, cycle, sumsOf, sums, joinedBlock, listOf, ratioOf, formAndFit, keeps, permits}
 use Rattle.meaning.proofs.Lists.{be16-at16}
@@ -17,26 +17,11 @@ use Rattle.meaning.proofs.Sums.{first-sum, second-sum, first-shown, second-show
 use Rattle.meaning.proofs.Tests.{and-left, and-right, and-both, every-at, alike, same-true, same-refl}
 use Rattle.meaning.proofs.Values.{permits-opened}
 use Rattle.meaning.proofs.Commit.{form-joined}
-use Rattle.octets.proofs.Splices.{then}
 use Rattle.schedule.specs.Rules.{fitTogether}
 
 pub joined-length : (b c l r : List ℕ) → length (joinedBlock b c l r) ≡ length b + length c + length l + length r
 unfolding joinedBlock
 joined-length b c l r = omega (arith, length-append b (c ++ (l ++ r)), length-append c (l ++ r), length-append l r)
-
--- four values written one behind another are the block
-pub joined-writes : (block b c l r : List ℕ) (p q t : ℕ) {s₁ s₂ s₃ s₄ : List ℕ} → length (joinedBlock b c l r) ≤ length block
-    → p ≡ 0 + length b → q ≡ p + length c → t ≡ q + length l
-    → s₁ ≡ splice block 0 b → s₂ ≡ splice s₁ p c → s₃ ≡ splice s₂ q l → s₄ ≡ splice s₃ t r → s₄ ≡ splice block 0 (joinedBlock b c l r)
-unfolding joinedBlock
-joined-writes block b c l r p q t h hp hq ht e₁ e₂ e₃ e₄ =
-    let n = joined-length b c l r in
-    let n₂ = length-append b c in
-    let n₃ = length-append (b ++ c) l in
-    let a₂ = then block b c 0 p (omega (arith, n, h)) hp e₁ e₂ in
-    let a₃ = then block (b ++ c) l 0 q (omega (arith, n, h, n₂)) (omega (arith, n₂, hp, hq)) a₂ e₃ in
-    then block (b ++ c ++ l) r 0 t (omega (arith, n, h, n₂, n₃)) (omega (arith, n₂, n₃, hp, hq, ht)) a₃ e₄
-    ∙ ap (splice block 0) (append-assoc (b ++ c) l r ∙ append-assoc b c (l ++ r))
 
 -- four octets are those of the two numbers that they spell
 four-spelt : (v : List ℕ) → length v ≡ 4 → ((i : ℕ) → octet v i < 256) → v ≡ be16 (at16 v 0) ++ be16 (at16 v 2)

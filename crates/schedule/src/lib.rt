@@ -6,7 +6,7 @@ ghost use mathlib.Core.Bool.{true, _&&_};
 ghost use mathlib.Core.List.{_++_};
 ghost use lib.ListN.{length};
 ghost use lib.Dec.{eqb};
-ghost use Rattle.meaning.specs.Octets.{be16, splice, same};
+ghost use Rattle.meaning.specs.Octets.{be16, same};
 ghost use Rattle.meaning.specs.Table.{rowAt, adminControlListLength, adminControlList, adminCycleTime};
 ghost use Rattle.meaning.specs.Block.{sumsFrom, sumsOf, sums, joinedBlock, listOf, ratioOf, formAndFit, keeps, permits};
 ghost use Rattle.schedule.specs.Rules.{ruleOf, asked, fitTogether};
@@ -30,9 +30,7 @@ const RATIO_LENGTH: usize = 8;
 
 const BLOCK_REST: usize = COUNT_END + RATIO_LENGTH;
 
-// Octets of the longest block, and of a commit's value.
-pub const BLOCK_MOST: usize = BLOCK_REST + values::LIST_MOST;
-
+// Octets of a commit's value.
 pub const SUMS_LENGTH: usize = 4;
 
 // The two sums over a block.
@@ -78,6 +76,16 @@ pub fn sums_of(block: &[u8]) -> Sums
     sums_on(0, 0, block)
 }
 
+// The two sums over the block that four values make: each value is summed where it stands, from where the one before it left off.
+pub fn sums_of_four(base: &[u8], count: &[u8], list: &[u8], ratio: &[u8]) -> Sums
+    ensures { λ r. ⌜ (r .first ≡ sumsOf (joinedBlock (now (base .entry)) (now (count .entry)) (now (list .entry)) (now (ratio .entry))) .first) × (r .second ≡ sumsOf (joinedBlock (now (base .entry)) (now (count .entry)) (now (list .entry)) (now (ratio .entry))) .second) ⌝ }
+{
+    let a = sums_on(0, 0, base);
+    let b = sums_on(a.first, a.second, count);
+    let c = sums_on(b.first, b.second, list);
+    sums_on(c.first, c.second, ratio)
+}
+
 // Form and fit of the block that four values make.
 fn values_fit(base: &[u8], count: &[u8], list: &[u8], ratio: &[u8]) -> bool
     requires { ⌜ (length (now base) ≡ 10) × (length (now count) ≡ 4) × (length (now ratio) ≡ 8) ⌝ }
@@ -90,10 +98,10 @@ fn values_fit(base: &[u8], count: &[u8], list: &[u8], ratio: &[u8]) -> bool
     if values::ENTRIES_MOST < n {
         return false;
     }
+    let w = values::walk(list);
     if !values::ratio_ok(ratio) {
         return false;
     }
-    let w = values::walk(list);
     let held = values::as_number(count) == n as u64;
     let whole = list.len() % values::ENTRY_LENGTH == 0;
     values::time_ok(base) & (held & (whole & (w.ok & values::fits_cycle(w.sum, ratio))))
@@ -170,24 +178,13 @@ pub fn write_sums(s: Sums, out: &mut [u8])
     octets::put16(out, 2, s.second as usize);
 }
 
-// Whether a value has 4 octets and they are the sums of a block.
-pub fn sums_agree(block: &[u8], value: &[u8]) -> bool
-    ensures { λ r. ⌜ r ≡ (eqb (length (now (value .entry))) 4 && same (now (value .entry)) (sums (now (block .entry)))) ⌝ }
+// Whether a value has 4 octets and they are the sums over the block that four values make.
+pub fn sums_agree(base: &[u8], count: &[u8], list: &[u8], ratio: &[u8], value: &[u8]) -> bool
+    ensures { λ r. ⌜ r ≡ (eqb (length (now (value .entry))) 4 && same (now (value .entry)) (sums (joinedBlock (now (base .entry)) (now (count .entry)) (now (list .entry)) (now (ratio .entry))))) ⌝ }
 {
     if value.len() != SUMS_LENGTH {
         return false;
     }
-    let s = sums_of(block);
+    let s = sums_of_four(base, count, list, ratio);
     (octets::get16(value, 0) == s.first as usize) & (octets::get16(value, 2) == s.second as usize)
-}
-
-// The block that four values make, joined at the start of a room; its length.
-pub fn join(base: &[u8], count: &[u8], list: &[u8], ratio: &[u8], block: &mut [u8]) -> usize
-    requires { ⌜ length (joinedBlock (now base) (now count) (now list) (now ratio)) ≤ length (now block) ⌝ }
-    ensures { λ r. ⌜ (r ≡ length (joinedBlock (now (base .entry)) (now (count .entry)) (now (list .entry)) (now (ratio .entry)))) × (now (block .exit) ≡ splice (now (block .entry)) 0 (joinedBlock (now (base .entry)) (now (count .entry)) (now (list .entry)) (now (ratio .entry)))) ⌝ }
-{
-    let mut at = octets::append(block, 0, base);
-    at = octets::append(block, at, count);
-    at = octets::append(block, at, list);
-    octets::append(block, at, ratio)
 }

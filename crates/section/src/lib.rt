@@ -98,9 +98,10 @@ fn write_value(
         return records::write_held(out, at, name, v);
     }
     let s = running_sums(m, known);
-    let mut sums = [0u8; schedule::SUMS_LENGTH];
-    schedule::write_sums(s, &mut sums);
-    records::write_held(out, at, name, &sums)
+    let from = records::write_value_head(out, at, name, schedule::SUMS_LENGTH);
+    let end = from + schedule::SUMS_LENGTH;
+    schedule::write_sums(s, &mut out[from..end]);
+    end
 }
 
 // The record of an answer to an operation, at the place of its kind; the places after it.

@@ -1,10 +1,10 @@
 -- The tests as the code makes them: an entry without its tail, all entries and their tails, the whole memory.
 use Prim.Native.Nat.{ℕ, zero, suc, _+_, _-_, _≤_, _<_}
 use native.Mathlib.Omega.{arith}
-use native.Mathlib.Nat.{sub-zero}
+use native.Mathlib.Nat.{add-zero, add-suc, sub-zero}
 use native.Mathlib.Numerals.{add-one}
 use mathlib.Core.Path.{_≡_, refl, sym, ap}
-use mathlib.Core.Bool.{Bool, true, _&&_, _||_, not, cond, and-true, and-assoc, and-comm}
+use mathlib.Core.Bool.{Bool, true, false, _&&_, _||_, not, cond, and-true, and-assoc, and-comm}
 use mathlib.Core.List.{List}
 use lib.ListN.{length, take}
 use lib.Seq.{length-take-le}
@@ -20,6 +20,12 @@ use Rattle.soundness.specs.Fields.{cellSound, fieldsSound, fieldsAt, tai
 pub below-more : (f : ℕ → Bool) (k : ℕ) → (below k f && f k) ≡ below (k + 1) f
 unfolding below
 below-more f k = rw add-one
+
+-- where a test under n fails, one under more does
+pub below-denied : (f : ℕ → Bool) (n : ℕ) → below n f ≡ false → (k : ℕ) → below (n + k) f ≡ false
+unfolding below
+below-denied f n e zero = rw add-zero e
+below-denied f n e (suc k) = rw (add-suc, below-denied f n e k)
 
 -- four tests, the first two and the last two exchanged in the middle
 crossed : (a b c d : Bool) → (a && b && (c && d)) ≡ (a && c && (b && d))

@@ -59,8 +59,19 @@ pub const COMMIT: usize = 18;
 
 pub const COMMIT_NAME: usize = 0x8001;
 
-// Where the room of the running block starts.
+// Where rooms start: those of a block's base time, list and cycle, of 000B, of the running block.
+pub const BASE_AT: usize = 125;
+
+pub const LIST_AT: usize = 139;
+
+pub const CYCLE_AT: usize = 587;
+
+pub const MAX_AT: usize = 599;
+
 pub const RUNNING_AT: usize = 1630;
+
+// Octets of a cycle.
+pub const CYCLE_LENGTH: usize = 8;
 
 // Who sets a parameter.
 pub enum Owner {
@@ -101,12 +112,12 @@ pub fn row_at(k: usize) -> Row
     match k {
         0 => as_row(0x0001, 8, 8, BODIES_AT, Owner::Port, Rule::Free),
         1 => as_row(0x0003, 1, 1, 124, Owner::Controller, Rule::Within(0, 1)),
-        2 => as_row(0x0004, 10, 10, 125, Owner::Controller, Rule::Time),
+        2 => as_row(0x0004, 10, 10, BASE_AT, Owner::Controller, Rule::Time),
         3 => as_row(0x0005, 4, 4, 135, Owner::Controller, Rule::Within(0, 64)),
-        4 => as_row(0x0006, 0, 448, 139, Owner::Controller, Rule::Entries),
-        5 => as_row(0x0007, 8, 8, 587, Owner::Controller, Rule::Ratio),
+        4 => as_row(0x0006, 0, 448, LIST_AT, Owner::Controller, Rule::Entries),
+        5 => as_row(0x0007, 8, 8, CYCLE_AT, Owner::Controller, Rule::Ratio),
         6 => as_row(0x0008, 4, 4, 595, Owner::Port, Rule::Free),
-        7 => as_row(0x000B, 4, 4, 599, Owner::Nobody, Rule::Within(64, 64)),
+        7 => as_row(0x000B, 4, 4, MAX_AT, Owner::Nobody, Rule::Within(64, 64)),
         8 => as_row(0x0040, 1, 1, 603, Owner::Controller, Rule::Within(1, 4)),
         9 => as_row(0x0041, 1, 1, 604, Owner::Controller, Rule::Within(1, 7)),
         10 => as_row(0x0042, 1, 255, 605, Owner::Controller, Rule::Free),

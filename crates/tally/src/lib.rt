@@ -110,7 +110,7 @@ pub fn take(m: &[u8], list: &[u8], copy: &mut [u8]) -> Taken
     ensures { λ _. ⌜ now (copy .exit) ≡ after (now (m .entry)) (orNone (parse (now (list .entry)))) ⌝ }
     ensures { λ r. ⌜ r .changed ≡ anyChange (answers (now (m .entry)) (orNone (parse (now (list .entry))))) ⌝ }
 {
-    bytes::copy(m, copy);
+    octets::renew(copy, m, true);
     let none = Count {
         count: 0,
         octets: 0,

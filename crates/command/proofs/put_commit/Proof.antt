@@ -1,20 +1,21 @@
 -- `command::put_commit` meets its contract.
-use Prim.Native.Nat.{ℕ, _-_, _≤_}
+use Prim.Native.Nat.{ℕ, _-_}
 use native.Mathlib.Omega.{arith}
 use mathlib.Core.Path.{_≡_, refl, sym, ap, _∙_}
 use mathlib.Core.Bool.{true, false, _&&_}
 use mathlib.Core.List.{List}
-use lib.ListN.{length, take}
+use lib.ListN.{length}
 use lib.Dec.{eqb}
 use borrow.Author.Needs.{needs}
 use Rattle.meaning.specs.Octets.{same}
-use Rattle.meaning.specs.Table.{rowAt, adminBaseTime, adminControlListLength, adminControlList, adminCycleTime, commit}
+use Rattle.meaning.specs.Table.{rowAt, adminBaseTime, adminControlListLength, adminControlList, adminCycleTime}
 use Rattle.meaning.specs.Block.{joinedBlock, formAndFit, sums, permits}
-use Rattle.meaning.specs.Memory.{body, fourPresent, store}
+use Rattle.meaning.specs.Memory.{body, fourPresent}
 use Rattle.meaning.specs.Step.{block, commits}
 use Rattle.meaning.proofs.Tests.{denied, affirmed}
 use Rattle.schedule.proofs.Blocks.{fit-is}
-use Rattle.command.proofs.Sets.{long-of, FourPermitted, four-permitted, FourLengths, four-lengths, block-length, commit-unset, commit-unfit, commit-sums, block-found, block-lent, block-in-room, fills, one-length}
+use Rattle.memory.proofs.Running.{fills}
+use Rattle.command.proofs.Sets.{long-of, FourPermitted, four-permitted, FourLengths, four-lengths, commit-unset, commit-unfit, commit-sums, block-found, one-length}
 use Rattle.command.proofs.put_commit.Statement.{statement}
 use Rattle.command.proofs.put_commit.Tie as tie
 
@@ -56,9 +57,6 @@ module _ (c : tie.After-room3) where
   found : joinedBlock (c .before .before .before .room .result .now) (c .before .before .room2 .result .now) (c .before .body .result .now) (c .room3 .result .now) ≡ block copy
   found = block-found copy base-is count-is list-is ratio-is
 
-  short : length (block copy) ≤ 470
-  short = omega (arith, block-length copy permitted, lengths .list)
-
 -- whether they fit one another
 fit : (c : tie.After-fit-together) → c .fit-together .result ≡ formAndFit (block (copy (c .before)))
 fit c =
@@ -69,34 +67,21 @@ fit c =
     (ap (permits (rowAt adminControlList)) (list-is k) ∙ p .list) (ap (permits (rowAt adminCycleTime)) (ratio-is k) ∙ p .ratio)
     ∙ ap formAndFit (found k)
 
--- their block, at the start of its room
-module _ (c : tie.After-join) where
-  abbrev values : tie.After-room3
-  values = c .before .before .before .before
-
-  abbrev room : List ℕ
-  room = c .join .last .1 .1 .1 .1 .0
-
-  stands : take (c .join .result - 0) room ≡ block (copy values)
-  stands = block-lent _ _ (c .join .ensures .0) (c .join .ensures .1) ∙ found values
-
-  within : c .join .result ≤ length room
-  within = omega (arith, c .join .ensures .0, ap length (found values), short values, c .join .kept .1 .1 .1 .1 .0)
-
 -- whether the sums agree
 module _ (c : tie.After-sums-agree) where
-  abbrev joined : tie.After-join
-  joined = c .before .before .before .before
+  abbrev values : tie.After-room3
+  values = c .before .before .before
 
   abbrev sent : List ℕ
-  sent = start (values joined) .args .v .now
+  sent = start values .args .v .now
 
-  tested : c .sums-agree .result ≡ commits (copy (values joined)) sent
+  tested : c .sums-agree .result ≡ commits (copy values) sent
   tested =
-      let k = values joined in
-      c .sums-agree .ensures
-      ∙ ap (λ (b : List ℕ). eqb (length sent) 4 && same sent (sums b)) (stands joined)
-      ∙ sym (commit-sums (copy k) sent (four k) (sym (fit (joined .before .before .before)) ∙ affirmed _ (joined .before .before .if2 .left)))
+      let e : c .sums-agree .result ≡ (eqb (length sent) 4 && same sent (sums (joinedBlock (values .before .before .before .room .result .now) (values .before .before .room2 .result .now) (values .before .body .result .now) (values .room3 .result .now)))) =
+      c .sums-agree .ensures in
+      e
+      ∙ ap (λ (b : List ℕ). eqb (length sent) 4 && same sent (sums b)) (found values)
+      ∙ sym (commit-sums (copy values) sent (four values) (sym (fit (c .before .before)) ∙ affirmed _ (c .before .if2 .left)))
 
 four-present-requires : tie.Need-four-present-requires
 four-present-requires c κs = long-of _ (c .before .before .before .pre)
@@ -138,25 +123,6 @@ returns-2 c =
     let s = c .before .before .before .before .before .before .before .before .before .before .before .before in
     rw (commit-unfit (s .args .m .now) (s .args .v .now) (sym (fit (c .before)) ∙ denied _ (c .if2 .taken))) (refl, refl)
 
-slice-aggregate-join : tie.Need-slice-aggregate-join
-slice-aggregate-join c = search needs
-
-join-requires : tie.Need-join-requires
-join-requires c κs =
-    let k = c .before .before .before in
-    omega (arith, ap length (found k), short k)
-
-sub-sums-agree : tie.Need-sub-sums-agree
-sub-sums-agree c = search needs
-
-part-sums-agree-start : tie.Need-part-sums-agree-start
-part-sums-agree-start c = search needs
-
-part-sums-agree-end : tie.Need-part-sums-agree-end
-part-sums-agree-end c =
-    let h = within (c .before .before) in
-    search needs
-
 sums-agree-requires : tie.Need-sums-agree-requires
 sums-agree-requires c κs = search needs
 
@@ -168,30 +134,20 @@ returns-3 c =
     let k = c .before in
     rw (sym (tested k) ∙ denied _ (c .if3 .taken)) (refl, refl)
 
-sub-store : tie.Need-sub-store
-sub-store c = search needs
-
-part-store-start : tie.Need-part-store-start
-part-store-start c = search needs
-
-part-store-end : tie.Need-part-store-end
-part-store-end c =
-    let h = within (c .before .before .before .before .before .before .before) in
-    search needs
-
-store-requires : tie.Need-store-requires
-store-requires c κs =
-    let k = c .before .before .before .before .before .before .before .before in
-    (long-of _ (start (values k) .pre), omega arith, rw (stands k) (block-in-room (block (copy (values k))) (short (values k))))
+store-block-requires : tie.Need-store-block-requires
+store-block-requires c κs =
+    let k = values (c .before .before) in
+    let l = lengths k in
+    (long-of _ (start k .pre), l .base, l .count, l .ratio)
 
 same-length-4 : tie.Need-same-length-4
 same-length-4 c = search needs
 
 returns-4 : tie.Need-returns-4
 returns-4 c =
-    let k = c .before .before .before .before .before .before .before in
-    let m = copy (values (joined k)) in
-    rw (sym (tested k) ∙ affirmed _ (c .before .before .before .before .before .before .if3 .left)) (refl, c .before .before .store .ensures ∙ ap (store m commit) (stands (joined k)))
+    let d = c .before .before in
+    let k = d .before .before .before in
+    rw (sym (tested k) ∙ affirmed _ (d .before .before .if3 .left)) (refl, d .store-block .ensures)
 
 pub put-commit-spec : {M : Type 1} → statement M
 put-commit-spec =
@@ -207,17 +163,9 @@ put-commit-spec =
     fit-together-requires
     same-length-2
     returns-2
-    slice-aggregate-join
-    join-requires
-    sub-sums-agree
-    part-sums-agree-start
-    part-sums-agree-end
     sums-agree-requires
     same-length-3
     returns-3
-    sub-store
-    part-store-start
-    part-store-end
-    store-requires
+    store-block-requires
     same-length-4
     returns-4)

@@ -1,5 +1,5 @@
 -- `schedule::keeps` meets its contract.
-use borrow.Author.Tests.{eqb-true, leb-true}
+use borrow.Author.Tests.{eqb-true}
 use borrow.Author.Needs.{needs}
 use Rattle.meaning.specs.Block.{keeps}
 use Rattle.schedule.specs.Rules.{ruleOf, asked}
@@ -27,8 +27,7 @@ enum-told-3 : tie.Need-enum-told-3
 enum-told-3 c = search needs
 
 list-ok-requires : tie.Need-list-ok-requires
-unfolding ruleOf asked
-list-ok-requires c κs = leb-true _ _ (rw (c .enum-told3 .given .1) at (c .before .before .before .pre))
+list-ok-requires c κs = search needs
 
 enum-told-4 : tie.Need-enum-told-4
 enum-told-4 c = search needs

@@ -24,19 +24,19 @@ returns-2 c =
     let f = fit-opened (a .base .now) (a .count .now) (a .list .now) (a .ratio .now) (s .pre .0) (s .pre .1) (s .pre .2) e in
     omega (arith, f .most, c .if2 .taken)))
 
+walk-requires : tie.Need-walk-requires
+walk-requires c κs = search needs
+
 ratio-ok-requires : tie.Need-ratio-ok-requires
 ratio-ok-requires c κs = search needs
 
 returns-3 : tie.Need-returns-3
 returns-3 c =
-    let s = c .before .before .before .before .before .before .before .before in
+    let s = c .before .before .before .before .before .before .before .before .before in
     let a = s .args in
     sym (not-true _ (λ e.
     let f = fit-opened (a .base .now) (a .count .now) (a .list .now) (a .ratio .now) (s .pre .0) (s .pre .1) (s .pre .2) e in
     false≢true (sym (denied _ (c .if3 .taken)) ∙ c .before .ratio-ok .ensures ∙ f .denominator)))
-
-walk-requires : tie.Need-walk-requires
-walk-requires c κs = search needs
 
 as-number-requires : tie.Need-as-number-requires
 as-number-requires c κs = rw (c .before .before .before .before .before .before .before .before .before .pre .1)
@@ -46,24 +46,24 @@ time-ok-requires c κs = search needs
 
 fits-cycle-requires : tie.Need-fits-cycle-requires
 fits-cycle-requires c κs =
-    let k = c .before .before .before in
+    let k = c .before .before in
     (search needs, sym (k .before .ratio-ok .ensures) ∙ affirmed _ (k .if3 .left))
 
 returns-4 : tie.Need-returns-4
 returns-4 c =
     let s = c .before .before .before .before .before .before .before .before .before .before .before .before .before in
     let a = s .args in
-    let k = c .before .before .before .before .before in
+    let k = c .before .before .before .before in
     let d = sym (k .before .ratio-ok .ensures) ∙ affirmed _ (k .if3 .left) in
     fit-found (a .base .now) (a .count .now) (a .list .now) (a .ratio .now) (s .pre .0) (s .pre .1) (s .pre .2)
     (c .before .before .time-ok .ensures)
     (c .before .before .before .as-number .ensures .0)
-    (c .before .before .before .before .walk .ensures .0)
-    (c .before .before .before .before .walk .ensures .1)
+    (k .before .before .walk .ensures .0)
+    (k .before .before .walk .ensures .1)
     (c .before .fits-cycle .ensures)
     d
-    (k .before .before .before .if1 .left)
-    (k .before .before .if2 .left)
+    (k .before .before .before .before .if1 .left)
+    (k .before .before .before .if2 .left)
 
 pub values-fit-spec : {M : Type 1} → statement M
 values-fit-spec =
@@ -71,9 +71,9 @@ values-fit-spec =
     (tie.spec
     returns
     returns-2
+    walk-requires
     ratio-ok-requires
     returns-3
-    walk-requires
     as-number-requires
     time-ok-requires
     fits-cycle-requires

@@ -1,18 +1,23 @@
 -- `section::write_value` meets its contract.
-use Prim.Native.Nat.{ℕ}
+use Prim.Native.Nat.{ℕ, _+_, _≤_}
 use native.Mathlib.Omega.{arith}
 use mathlib.Core.Path.{_≡_, refl, sym, ap, _∙_}
-use mathlib.Core.List.{List}
+use mathlib.Core.List.{List, _++_}
 use lib.ListN.{length}
 use borrow.Author.Needs.{needs}
+use Rattle.meaning.specs.Octets.{be16, splice}
 use Rattle.meaning.specs.Table.{commit}
 use Rattle.meaning.specs.Block.{sums}
 use Rattle.meaning.specs.Memory.{body}
 use Rattle.meaning.specs.Step.{shown}
 use Rattle.meaning.specs.Reply.{heldOctets}
+use Rattle.octets.specs.Writing.{Wrote}
+use Rattle.octets.proofs.Splices.{lent-back}
 use Rattle.records.proofs.Lengths.{held-length}
+use Rattle.records.proofs.Written.{held-written}
 use Rattle.records.proofs.Pieces.{wrote-this}
 use Rattle.command.proofs.Shown.{shown-value, shown-short, shown-sums}
+use Rattle.schedule.specs.declared.Sums.{Sums}
 use Rattle.section.specs.Knowing.{runningSums}
 use Rattle.section.proofs.write_value.Statement.{statement}
 use Rattle.section.proofs.write_value.Tie as tie
@@ -23,15 +28,41 @@ value-shown c =
     let a = c .before .before .before .before .args in
     c .body .ensures ∙ sym (shown-value (a .m .now) (a .k) (c .before .if1 .taken))
 
--- the sums are what a read of 8001 shows
-sums-shown : (c : tie.After-write-sums)
-    → c .write-sums .last .1 .0 ≡ shown (c .before .before .before .before .before .before .args .m .now) (c .before .before .before .before .before .before .args .k)
+spelt : (m : List ℕ) {s : Sums} → s ≡ runningSums m → be16 (s .first) ++ be16 (s .second) ≡ sums (body m commit)
 unfolding sums runningSums
-sums-shown c =
-    let a = c .before .before .before .before .before .before .args in
-    let s = c .before .before .running-sums .ensures in
-    let e : sums (body (a .m .now) commit) ≡ shown (a .m .now) (a .k) = sym (shown-sums (a .m .now) commit refl) ∙ ap (shown (a .m .now)) (sym (c .before .before .before .if1 .left)) in
-    c .write-sums .ensures ∙ rw s e
+spelt m e = rw e
+
+-- the sums are what a read of 8001 shows
+module _ (c : tie.After-running-sums) where
+  abbrev start : tie.Start
+  start = c .before .before .before .before
+
+  abbrev asked : List ℕ
+  asked = shown (start .args .m .now) (start .args .k)
+
+  sums-shown : be16 (c .running-sums .result .first) ++ be16 (c .running-sums .result .second) ≡ asked
+  sums-shown =
+      let a = start .args in
+      spelt (a .m .now) (c .running-sums .ensures) ∙ sym (shown-sums (a .m .now) commit refl) ∙ ap (shown (a .m .now)) (sym (c .before .if1 .left))
+
+  four-shown : length asked ≡ 4
+  unfolding be16
+  four-shown = sym (ap length sums-shown)
+
+  record-fits : start .args .at + 8 ≤ length (start .args .out .now)
+  record-fits = omega (arith, start .pre .4, held-length (record { name = start .args .name; value = asked }), four-shown)
+
+-- what stands before them
+module _ (c : tie.After-write-value-head) where
+  abbrev known : tie.After-running-sums
+  known = c .before .before
+
+  head-written : Wrote (start known .args .out .now) (start known .args .at) (be16 (start known .args .name) ++ be16 (length (asked known))) (c .write-value-head .result) (c .write-value-head .last .0)
+  head-written = rw (four-shown known) (c .write-value-head .ensures)
+
+  behind-head : c .write-value-head .result ≡ start known .args .at + 4
+  unfolding be16
+  behind-head = c .write-value-head .ensures .0
 
 body-requires : tie.Need-body-requires
 body-requires c κs = search needs
@@ -54,20 +85,33 @@ returns c =
 running-sums-requires : tie.Need-running-sums-requires
 running-sums-requires c κs = search needs
 
-slice-aggregate-write-sums : tie.Need-slice-aggregate-write-sums
-slice-aggregate-write-sums c = search needs
+write-value-head-requires : tie.Need-write-value-head-requires
+write-value-head-requires c κs =
+    let h = record-fits (c .before) in
+    (search needs, start (c .before) .pre .2, omega arith)
+
+add-end : tie.Need-add-end
+add-end c =
+    let w = c .before .before in
+    let e = behind-head w in
+    let h = record-fits (known w) in
+    search needs
+
+sub-write-sums : tie.Need-sub-write-sums
+sub-write-sums c = search needs
+
+part-write-sums-start : tie.Need-part-write-sums-start
+part-write-sums-start c = search needs
+
+part-write-sums-end : tie.Need-part-write-sums-end
+part-write-sums-end c =
+    let w = c .before .before in
+    let e = behind-head w in
+    let h = record-fits (known w) in
+    search needs
 
 write-sums-requires : tie.Need-write-sums-requires
 write-sums-requires c κs = search needs
-
-slice-aggregate-write-held : tie.Need-slice-aggregate-write-held
-slice-aggregate-write-held c = search needs
-
-write-held-requires-2 : tie.Need-write-held-requires-2
-write-held-requires-2 c κs =
-    let s = c .before .before .before .before .before .before .before .before .before in
-    let e = sums-shown (c .before .before .before) in
-    (omega (arith, ap length e, s .pre .4, held-length (record { name = s .args .name; value = shown (s .args .m .now) (s .args .k) })), s .pre .2, omega (arith, ap length e, shown-short (s .args .m .now) (s .args .k) (s .pre .1)))
 
 same-length-2 : tie.Need-same-length-2
 same-length-2 c = search needs
@@ -75,8 +119,13 @@ same-length-2 c = search needs
 returns-2 : tie.Need-returns-2
 returns-2 c =
     let w = c .before .before .before .before .before .before in
-    let a = w .before .before .before .before .before .before .args in
-    wrote-this (a .out .now) (a .at) (ap (λ (v : List ℕ). heldOctets (record { name = a .name; value = v })) (sym (sums-shown w))) (c .before .before .write-held2 .ensures)
+    let k = known w in
+    let a = start k .args in
+    let from = w .write-value-head .result in
+    let e = c .before .before .write-sums .ensures ∙ sums-shown k in
+    let l : length (c .before .before .write-sums .last .1 .0) ≡ 4 = ap length e ∙ four-shown k in
+    held-written (a .out .now) (asked k) (a .at) (a .name) (omega (arith, record-fits k, four-shown k)) (head-written w)
+    (ap (λ (n : ℕ). from + n) (sym (four-shown k)), lent-back (w .write-value-head .last .0) _ from (from + 4) (omega arith) (omega (arith, l)) ∙ ap (splice (w .write-value-head .last .0) from) e)
 
 pub write-value-spec : {M : Type 1} → statement M
 write-value-spec =
@@ -87,9 +136,11 @@ write-value-spec =
     same-length
     returns
     running-sums-requires
-    slice-aggregate-write-sums
+    write-value-head-requires
+    add-end
+    sub-write-sums
+    part-write-sums-start
+    part-write-sums-end
     write-sums-requires
-    slice-aggregate-write-held
-    write-held-requires-2
     same-length-2
     returns-2)

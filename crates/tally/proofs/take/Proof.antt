@@ -2,12 +2,12 @@
 use Prim.Native.Nat.{_-_, _*_, _≤_, _<_}
 use native.Mathlib.Omega.{arith}
 use mathlib.Core.Path.{sym, _∙_}
+use mathlib.Core.Bool.{false≢true}
 use lib.ListN.{length}
 use borrow.Author.Needs.{needs}
 use Rattle.operation.specs.Handing.{Inside}
 use Rattle.operation.proofs.Turns.{HandsOut, inside-within}
 use Rattle.operation.proofs.Hands.{hands-out}
-use Rattle.octets.proofs.Splices.{copied-whole}
 use Rattle.command.proofs.Sets.{long-of}
 use Rattle.command.proofs.Told.{told-back}
 use Rattle.command.proofs.Walk.{under-ahead}
@@ -34,16 +34,15 @@ ahead c =
     let l = c .before .before .before .loop in
     under-ahead _ _ _ (l .at) (l .inv .under) _ (hands (c .before .before)) _ _ (c .h .given .1)
 
-copy-requires : tie.Need-copy-requires Inv-loop μ-loop
-copy-requires c κs =
+renew-requires : tie.Need-renew-requires Inv-loop μ-loop
+renew-requires c κs =
     let s = c .before .before .before .before in
-    omega (arith, long-of _ (s .pre .0), s .pre .3)
+    (omega (arith, long-of _ (s .pre .0), s .pre .3), λ e. absurd (false≢true (sym e)))
 
 loop-holds : tie.Need-loop-holds Inv-loop μ-loop
 loop-holds c =
     let s = c .before .before .before .before .before .before .before in
-    let k = c .before .before .copy in
-    counting-start _ _ _ (s .pre .0) (s .pre .1) (copied-whole (s .args .m .now) (s .args .copy .now) (k .last .1 .0) (omega (arith, long-of _ (s .pre .0), s .pre .3)) (k .ensures .1))
+    counting-start _ _ _ (s .pre .0) (s .pre .1) (c .before .before .renew .ensures)
 
 hand-out-requires : tie.Need-hand-out-requires Inv-loop μ-loop
 hand-out-requires c κs = search needs
@@ -95,7 +94,7 @@ take-spec =
     (tie.spec
     Inv-loop
     μ-loop
-    copy-requires
+    renew-requires
     loop-holds
     hand-out-requires
     enum-known-h
