@@ -98,13 +98,14 @@ fn values_fit(base: &[u8], count: &[u8], list: &[u8], ratio: &[u8]) -> bool
     if values::ENTRIES_MOST < n {
         return false;
     }
-    let w = values::walk(list);
+    let ok = values::entries_ok(list);
+    let sum = values::intervals(list);
     if !values::ratio_ok(ratio) {
         return false;
     }
     let held = values::as_number(count) == n as u64;
     let whole = list.len() % values::ENTRY_LENGTH == 0;
-    values::time_ok(base) & (held & (whole & (w.ok & values::fits_cycle(w.sum, ratio))))
+    values::time_ok(base) & (held & (whole & (ok & values::fits_cycle(sum, ratio))))
 }
 
 // The list of a block, and its cycle.

@@ -1,7 +1,7 @@
 -- A turn of the walk over a list's entries.
 use Prim.Native.Nat.{ℕ, suc, _+_, _-_, _*_, _<_}
 use native.Mathlib.Omega.{arith}
-use mathlib.Core.Path.{_≡_, ap, _∙_}
+use mathlib.Core.Path.{_≡_, _∙_}
 use mathlib.Core.Bool.{Bool, _&&_, and-assoc}
 use mathlib.Core.List.{List, _∷_}
 use lib.ListN.{drop}
@@ -34,9 +34,3 @@ module _ (v : List ℕ) (n k : ℕ) (h : k + 1 < n) where
       let f : k + 2 ≡ k + 1 + 1 = omega arith in
       rw (e, f, ← and-assoc ok (entryOk (part v (k * 7) 7)) (entryOk (part v ((k + 1) * 7) 7)))
       (each-turn v n (k + 1) h (ok && entryOk (part v (k * 7) 7)) ∙ each-turn v n k (omega arith) ok)
-
-  pub intervals-pair : intervals (cutIn (n - k) (drop (k * 7) v)) ≡ interval (part v (k * 7) 7) + (interval (part v (k * 7 + 7) 7) + intervals (cutIn (n - (k + 2)) (drop ((k + 2) * 7) v)))
-  intervals-pair =
-      let e : k * 7 + 7 ≡ (k + 1) * 7 = omega arith in
-      let f : k + 2 ≡ k + 1 + 1 = omega arith in
-      rw (e, f) (intervals-turn v n k (omega arith) ∙ ap (λ (m : ℕ). interval (part v (k * 7) 7) + m) (intervals-turn v n (k + 1) h))

@@ -14,7 +14,7 @@ pub const ENTRIES_MOST: usize = 64;
 
 pub const LIST_MOST: usize = ENTRY_LENGTH * ENTRIES_MOST;
 
-// Octets of two entries, which a walk takes at once.
+// Octets of two entries, which a turn takes at once.
 const PAIR_LENGTH: usize = 2 * ENTRY_LENGTH;
 
 // Where the gate states and the interval stand in an entry.
@@ -22,19 +22,18 @@ pub const STATES_AT: usize = 2;
 
 pub const INTERVAL_AT: usize = 3;
 
-// The largest operation of an entry, and the octet that follows it.
-const OPERATION_MOST: u8 = 2;
+// The largest operation of an entry, and the octet that follows it; the least and the greatest number that the two make, the low
+// octet first.
+const OPERATION_MOST: usize = 2;
 
-const ENTRY_MARK: u8 = 5;
+const ENTRY_MARK: usize = 5;
+
+const HEAD_LEAST: usize = 256 * ENTRY_MARK;
+
+const HEAD_MOST: usize = HEAD_LEAST + OPERATION_MOST;
 
 // Nanoseconds of a second.
 const SECOND: u64 = 1_000_000_000;
-
-// What a walk over a control list finds: whether every entry keeps its rule, and the sum of the intervals.
-pub struct Walked {
-    pub ok: bool,
-    pub sum: u64,
-}
 
 // The number that one octet or four spell.
 pub fn as_number(v: &[u8]) -> u64
@@ -92,47 +91,18 @@ pub fn fits_cycle(sum: u64, v: &[u8]) -> bool
     sum <= cycle(v)
 }
 
-// One entry of a control list and its interval: what the entry has to hold (RULES 4.22 to 4.25).
-fn entry_ok(e: &[u8], d: u64) -> bool
-    requires { ⌜ (length (now e) ≡ 7) × (d ≡ interval (now e)) ⌝ }
+// One entry of a control list: what it has to hold (RULES 4.22 to 4.25). Its first two octets are tested as one number: the compiler
+// makes one comparison of it.
+fn entry_ok(e: &[u8]) -> bool
+    requires { ⌜ length (now e) ≡ 7 ⌝ }
     ensures { λ r. ⌜ r ≡ entryOk (now (e .entry)) ⌝ }
 {
-    (e[0] <= OPERATION_MOST) & ((e[1] == ENTRY_MARK) & (1 <= d))
+    let head = octets::wide(e[0]) + 256 * octets::wide(e[1]);
+    (HEAD_LEAST <= head) & ((head <= HEAD_MOST) & (1 <= octets::get32(e, INTERVAL_AT)))
 }
 
-// The entries of a list, each looked at once and all of them: with no early exit.
-pub fn walk(v: &[u8]) -> Walked
-    requires { ⌜ length (now v) / 7 ≤ 64 ⌝ }
-    ensures { λ r. ⌜ (r .ok ≡ eachOk (entriesOf (now (v .entry)))) × (r .sum ≡ intervals (entriesOf (now (v .entry)))) ⌝ }
-{
-    let n = v.len() / ENTRY_LENGTH;
-    let mut ok = true;
-    let mut sum: u64 = 0;
-    let mut k: usize = 0;
-    while k + 1 < n {
-        let at = k * ENTRY_LENGTH;
-        let e = &v[at..at + ENTRY_LENGTH];
-        let f = &v[at + ENTRY_LENGTH..at + PAIR_LENGTH];
-        let d = octets::get32(e, INTERVAL_AT);
-        let g = octets::get32(f, INTERVAL_AT);
-        ok = ok & (entry_ok(e, d) & entry_ok(f, g));
-        sum += d + g;
-        k += 2;
-    }
-    if k < n {
-        let at = k * ENTRY_LENGTH;
-        let e = &v[at..at + ENTRY_LENGTH];
-        let d = octets::get32(e, INTERVAL_AT);
-        return Walked {
-            ok: ok & entry_ok(e, d),
-            sum: sum + d,
-        };
-    }
-    Walked { ok, sum }
-}
-
-// The tests of a walk alone: a list that is set, or stands in its room, is not held to a cycle.
-fn entries_ok(v: &[u8]) -> bool
+// The entries of a list, each looked at once and all of them, two at a turn: with no early exit.
+pub fn entries_ok(v: &[u8]) -> bool
     ensures { λ r. ⌜ r ≡ eachOk (entriesOf (now (v .entry))) ⌝ }
 {
     let n = v.len() / ENTRY_LENGTH;
@@ -142,21 +112,18 @@ fn entries_ok(v: &[u8]) -> bool
         let at = k * ENTRY_LENGTH;
         let one = &v[at..at + ENTRY_LENGTH];
         let next = &v[at + ENTRY_LENGTH..at + PAIR_LENGTH];
-        let d = octets::get32(one, INTERVAL_AT);
-        let g = octets::get32(next, INTERVAL_AT);
-        ok = ok & (entry_ok(one, d) & entry_ok(next, g));
+        ok = ok & (entry_ok(one) & entry_ok(next));
         k += 2;
     }
     if k < n {
         let at = k * ENTRY_LENGTH;
         let last = &v[at..at + ENTRY_LENGTH];
-        let d = octets::get32(last, INTERVAL_AT);
-        return ok & entry_ok(last, d);
+        return ok & entry_ok(last);
     }
     ok
 }
 
-// The sum of a list's intervals alone: a walk tests each entry as well, and the tests are what costs.
+// The sum of a list's intervals.
 pub fn intervals(v: &[u8]) -> u64
     requires { ⌜ length (now v) / 7 ≤ 64 ⌝ }
     ensures { λ r. ⌜ r ≡ intervals (entriesOf (now (v .entry))) ⌝ }

@@ -24,22 +24,25 @@ returns-2 c =
     let f = fit-opened (a .base .now) (a .count .now) (a .list .now) (a .ratio .now) (s .pre .0) (s .pre .1) (s .pre .2) e in
     omega (arith, f .most, c .if2 .taken)))
 
-walk-requires : tie.Need-walk-requires
-walk-requires c κs = search needs
+entries-ok-requires : tie.Need-entries-ok-requires
+entries-ok-requires c κs = search needs
+
+intervals-requires : tie.Need-intervals-requires
+intervals-requires c κs = search needs
 
 ratio-ok-requires : tie.Need-ratio-ok-requires
 ratio-ok-requires c κs = search needs
 
 returns-3 : tie.Need-returns-3
 returns-3 c =
-    let s = c .before .before .before .before .before .before .before .before .before in
+    let s = c .before .before .before .before .before .before .before .before .before .before in
     let a = s .args in
     sym (not-true _ (λ e.
     let f = fit-opened (a .base .now) (a .count .now) (a .list .now) (a .ratio .now) (s .pre .0) (s .pre .1) (s .pre .2) e in
     false≢true (sym (denied _ (c .if3 .taken)) ∙ c .before .ratio-ok .ensures ∙ f .denominator)))
 
 as-number-requires : tie.Need-as-number-requires
-as-number-requires c κs = rw (c .before .before .before .before .before .before .before .before .before .pre .1)
+as-number-requires c κs = rw (c .before .before .before .before .before .before .before .before .before .before .pre .1)
 
 time-ok-requires : tie.Need-time-ok-requires
 time-ok-requires c κs = search needs
@@ -53,17 +56,17 @@ returns-4 : tie.Need-returns-4
 returns-4 c =
     let s = c .before .before .before .before .before .before .before .before .before .before .before .before .before in
     let a = s .args in
-    let k = c .before .before .before .before in
+    let k = c .before .before .before in
     let d = sym (k .before .ratio-ok .ensures) ∙ affirmed _ (k .if3 .left) in
     fit-found (a .base .now) (a .count .now) (a .list .now) (a .ratio .now) (s .pre .0) (s .pre .1) (s .pre .2)
-    (c .before .before .time-ok .ensures)
-    (c .before .before .before .as-number .ensures .0)
-    (k .before .before .walk .ensures .0)
-    (k .before .before .walk .ensures .1)
-    (c .before .fits-cycle .ensures)
+    (c .before .time-ok .ensures)
+    (c .before .before .as-number .ensures .0)
+    (k .before .before .before .entries-ok .ensures)
+    (k .before .before .intervals .ensures)
+    (c .fits-cycle .ensures)
     d
-    (k .before .before .before .before .if1 .left)
-    (k .before .before .before .if2 .left)
+    (k .before .before .before .before .before .if1 .left)
+    (k .before .before .before .before .if2 .left)
 
 pub values-fit-spec : {M : Type 1} → statement M
 values-fit-spec =
@@ -71,7 +74,8 @@ values-fit-spec =
     (tie.spec
     returns
     returns-2
-    walk-requires
+    entries-ok-requires
+    intervals-requires
     ratio-ok-requires
     returns-3
     as-number-requires

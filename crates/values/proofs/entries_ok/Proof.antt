@@ -1,4 +1,4 @@
--- `values::entries_ok` meets its contract, as `walk` does its own.
+-- `values::entries_ok` meets its contract: the entries passed and those left give what the whole list gives.
 use Prim.Native.Nat.{_+_, _-_, _*_, _/_, _≤_, _<_}
 use native.Mathlib.Omega.{arith}
 use native.Mathlib.Nat.{sub-zero, sub-eq-zero-of-le}
@@ -7,7 +7,7 @@ use mathlib.Core.Bool.{_&&_, and-true}
 use lib.ListN.{length, drop}
 use borrow.Author.Needs.{needs}
 use Rattle.meaning.specs.Octets.{part}
-use Rattle.meaning.specs.Block.{cutIn, entriesOf, interval, entryOk, eachOk}
+use Rattle.meaning.specs.Block.{cutIn, entriesOf, entryOk, eachOk}
 use Rattle.values.proofs.Walks.{each-turn, each-pair}
 use Rattle.values.proofs.entries_ok.Statement.{statement}
 use Rattle.values.proofs.entries_ok.Tie as tie
@@ -57,19 +57,11 @@ part-next-start c = search needs
 part-next-end : tie.Need-part-next-end Inv-loop μ-loop
 part-next-end c = search needs
 
-get32-requires : tie.Need-get32-requires Inv-loop μ-loop
-get32-requires c κs = search needs
-
-get32-requires-2 : tie.Need-get32-requires-2 Inv-loop μ-loop
-get32-requires-2 c κs = search needs
-
 entry-ok-requires : tie.Need-entry-ok-requires Inv-loop μ-loop
-unfolding interval
-entry-ok-requires c κs = (search needs, c .before .get32 .ensures .0)
+entry-ok-requires c κs = search needs
 
 entry-ok-requires-2 : tie.Need-entry-ok-requires-2 Inv-loop μ-loop
-unfolding interval
-entry-ok-requires-2 c κs = (search needs, c .before .get322 .ensures .0)
+entry-ok-requires-2 c κs = search needs
 
 add-k : tie.Need-add-k Inv-loop μ-loop
 add-k c = search needs
@@ -80,11 +72,11 @@ loop-less c = search needs
 loop-again : tie.Need-loop-again Inv-loop μ-loop
 unfolding part
 loop-again c =
-    let t = c .before .before .before .before .before .before .before in
+    let t = c .before .before .before .before .before in
     let l = t .loop in
     let v = t .before .before .args .v .now in
     let n = length v / 7 in
-    let h : l .k + 1 < n = c .before .before .before .before .before .before .loop-test .taken in
+    let h : l .k + 1 < n = c .before .before .before .before .loop-test .taken in
     let p : l .k * 7 + 7 - l .k * 7 ≡ 7 = omega arith in
     let q : l .k * 7 + 14 - (l .k * 7 + 7) ≡ 7 = omega arith in
     let e : c .before .entry-ok .result ≡ entryOk (part v (l .k * 7) 7) = rw p at (c .before .entry-ok .ensures) in
@@ -106,23 +98,19 @@ part-last-start c = search needs
 part-last-end : tie.Need-part-last-end Inv-loop μ-loop
 part-last-end c = search needs
 
-get32-requires-3 : tie.Need-get32-requires-3 Inv-loop μ-loop
-get32-requires-3 c κs = search needs
-
 entry-ok-requires-3 : tie.Need-entry-ok-requires-3 Inv-loop μ-loop
-unfolding interval
-entry-ok-requires-3 c κs = (search needs, c .get323 .ensures .0)
+entry-ok-requires-3 c κs = search needs
 
 returns : tie.Need-returns Inv-loop μ-loop
 unfolding part cutIn eachOk
 returns c =
-    let t = c .before .before .before .before .before in
+    let t = c .before .before .before .before in
     let l = t .loop in
     let v = t .before .before .args .v .now in
     let n = length v / 7 in
-    let h : l .k < n = c .before .before .before .if1 .taken in
+    let h : l .k < n = c .before .before .if1 .taken in
     let p : l .k * 7 + 7 - l .k * 7 ≡ 7 = omega arith in
-    let z : n - (l .k + 1) ≡ 0 = sub-eq-zero-of-le (c .before .before .before .before .loop-test .left) in
+    let z : n - (l .k + 1) ≡ 0 = sub-eq-zero-of-le (c .before .before .before .loop-test .left) in
     let e : c .entry-ok3 .result ≡ entryOk (part v (l .k * 7) 7) = rw p at (c .entry-ok3 .ensures) in
     rw e (rw (z, and-true) at (each-turn v n (l .k) h (l .ok) ∙ l .inv .1))
 
@@ -152,8 +140,6 @@ entries-ok-spec =
     sub-next
     part-next-start
     part-next-end
-    get32-requires
-    get32-requires-2
     entry-ok-requires
     entry-ok-requires-2
     add-k
@@ -164,7 +150,6 @@ entries-ok-spec =
     sub-last
     part-last-start
     part-last-end
-    get32-requires-3
     entry-ok-requires-3
     returns
     returns-2)
