@@ -12,7 +12,7 @@ use Rattle.meaning.specs.Octets.{same, every}
 use Rattle.meaning.specs.Checks.{firstFailed, whenPassed}
 use Rattle.meaning.specs.Table.{rows, rowAt, place, listed, byController, entryCount, memoryLength, adminBaseTime, adminControlListLength, adminControlList, adminCycleTime, commit}
 use Rattle.meaning.specs.Block.{permits, joinedBlock, formAndFit, sums}
-use Rattle.meaning.specs.Memory.{present, body, pending, store, setMarks, fourPresent, sound}
+use Rattle.meaning.specs.Memory.{present, body, pending, inFlight, store, setMarks, fourPresent, sound}
 use Rattle.meaning.specs.Step.{block, commits, permitted, setChecks, stored, setMemory, subscribeMemory, unsubscribeMemory, setAnswer, readChecks, readAnswer, value, readError, update, updateError, shown}
 use Rattle.meaning.proofs.Sound.{opened, entry-of, four-at}
 use Rattle.schedule.proofs.Blocks.{permitted-base, permitted-count, permitted-list, permitted-ratio}
@@ -132,15 +132,15 @@ module _ (m : List ℕ) (n k : ℕ) (v : List ℕ) (e : k ≡ place n) (h : k < 
 -- ---- marks
 
 module _ (m : List ℕ) (n k : ℕ) (e : k ≡ place n) where
-  pub subscribe-listed : {after : List ℕ} {q : Bool} → k < entryCount → q ≡ pending m k → after ≡ setMarks m k true q → after ≡ subscribeMemory m n
+  pub subscribe-listed : {after : List ℕ} → k < entryCount → after ≡ setMarks m k true (pending m k) (inFlight m k) → after ≡ subscribeMemory m n
   unfolding subscribeMemory listed
-  subscribe-listed h q r = r ∙ rw (q, ← e, lt-ltb k entryCount h)
+  subscribe-listed h r = r ∙ rw (← e, lt-ltb k entryCount h)
 
   pub subscribe-unlisted : entryCount ≤ k → m ≡ subscribeMemory m n
   unfolding subscribeMemory listed
   subscribe-unlisted h = rw (← e, le-ltb k entryCount h)
 
-  pub unsubscribe-listed : {after : List ℕ} → k < entryCount → after ≡ setMarks m k false false → after ≡ unsubscribeMemory m n
+  pub unsubscribe-listed : {after : List ℕ} → k < entryCount → after ≡ setMarks m k false false false → after ≡ unsubscribeMemory m n
   unfolding unsubscribeMemory listed
   unsubscribe-listed h r = r ∙ rw (← e, lt-ltb k entryCount h)
 

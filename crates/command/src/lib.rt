@@ -106,19 +106,18 @@ fn subscribe(m: &mut [u8], name: usize)
 {
     let k = table::place_of(name);
     if k < table::ENTRY_COUNT {
-        let q = memory::pending(m, k);
-        memory::set_marks(m, k, true, q);
+        memory::subscribe(m, k);
     }
 }
 
-// Both marks cleared; nothing on an unlisted name.
+// All marks cleared; nothing on an unlisted name.
 fn unsubscribe(m: &mut [u8], name: usize)
     requires { ⌜ length (now m) ≡ memoryLength ⌝ }
     ensures { λ _. ⌜ now (m .exit) ≡ unsubscribeMemory (now (m .entry)) name ⌝ }
 {
     let k = table::place_of(name);
     if k < table::ENTRY_COUNT {
-        memory::set_marks(m, k, false, false);
+        memory::unsubscribe(m, k);
     }
 }
 

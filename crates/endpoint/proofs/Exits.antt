@@ -16,9 +16,10 @@ use Rattle.meaning.specs.Memory.{waiting, expiries, setTimer, sound, fresh}
 use Rattle.meaning.specs.Operation.{Op, parse, isSome, orNone, breakOf}
 use Rattle.meaning.specs.Step.{after}
 use Rattle.meaning.specs.Reply.{complete}
-use Rattle.meaning.specs.Calls.{localPermitted, localMemory, localChecks, localValue, reports, buildChecks, build, makeFresh, done, numberOnly, call, isCommand, isAcknowledgement, lengthField, operations, opsOf, records, carriedOut, acknowledged, handled, fits, messageChecks, located, message}
+use Rattle.meaning.specs.Calls.{whenAcknowledged, localPermitted, localMemory, localChecks, localValue, reports, buildChecks, build, makeFresh, done, numberOnly, call, isCommand, isAcknowledgement, lengthField, operations, opsOf, records, carriedOut, acknowledged, handled, fits, messageChecks, located, message}
 use Rattle.meaning.specs.Calls as calls
 use Rattle.meaning.proofs.Checked.{unlocated}
+use Rattle.meaning.proofs.Kept.{idled}
 use Rattle.meaning.proofs.Numbers.{Taken, Measured, length-right}
 use Rattle.octets.proofs.Splices.{part-is}
 use Rattle.endpoint.specs.declared.Outcome.{Outcome}
@@ -67,7 +68,7 @@ module _ (m room : List ℕ) where
   unfolding acknowledgement call firstFailed whenPassed fits acknowledged every
   acknowledgement-7 e h = rw (e, lt-leb 1 (length room) h)
 
-  pub acknowledgement-fits : waiting m ≡ true → 1 ≤ length room → acknowledgement m room ≡ done (5 ∷ []) (setTimer m 0 0) room
+  pub acknowledgement-fits : waiting m ≡ true → 1 ≤ length room → acknowledgement m room ≡ done (5 ∷ []) (idled whenAcknowledged m) room
   unfolding acknowledgement call firstFailed whenPassed fits acknowledged every
   acknowledgement-fits e h = rw (e, le-leb 1 (length room) h)
 

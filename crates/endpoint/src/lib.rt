@@ -32,6 +32,7 @@ ghost use Rattle.meaning.specs.Delay.{delay};
 ghost use Rattle.meaning.specs.Calls.{message, localValue, build, expiry, makeFresh};
 ghost use Rattle.endpoint.specs.Outcomes.{numberOf, lengthOf, positionOf, Gives, acknowledgement, command};
 use delay::Nanoseconds;
+use notification::Moment;
 use operation::Wholeness;
 
 // What a host lends and keeps, in octets: the memory of a port; the longest message that is not refused for its length; a
@@ -129,7 +130,7 @@ fn acknowledge(memory: &mut [u8], room: &mut [u8]) -> Outcome
         return Outcome::ReplyDoesNotFit;
     }
     room[0] = wire::TYPE_NOTIFY_COMPLETE;
-    memory::set_timer(memory, table::IDLE, 0);
+    notification::end_wait(memory, Moment::Acknowledged);
     Outcome::Done(1)
 }
 
@@ -224,8 +225,7 @@ pub fn build(memory: &mut [u8], room: &mut [u8]) -> Outcome
         return Outcome::NothingPending;
     }
     let end = notification::write(memory, due, room);
-    notification::clear(memory);
-    memory::set_timer(memory, table::WAITING, 0);
+    notification::begin_wait(memory);
     Outcome::Done(end)
 }
 
@@ -244,7 +244,7 @@ pub fn expiry(memory: &mut [u8]) -> Outcome
         memory::set_timer(memory, table::WAITING, n + 1);
         return Outcome::SendAgain;
     }
-    memory::set_timer(memory, table::IDLE, 0);
+    notification::end_wait(memory, Moment::GivenUp);
     Outcome::GivenUp
 }
 

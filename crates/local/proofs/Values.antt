@@ -13,7 +13,7 @@ use borrow.Author.Tests.{ltb-true, lt-ltb, le-ltb, eq-eqb, ne-eqb}
 use Rattle.meaning.specs.Octets.{same, nonempty, every}
 use Rattle.meaning.specs.Table.{place, listed, rowAt, byPort, entryCount}
 use Rattle.meaning.specs.Block.{permits}
-use Rattle.meaning.specs.Memory.{subscribed, pending, body, flags, put}
+use Rattle.meaning.specs.Memory.{subscribed, pending, inFlight, body, flags, put}
 use Rattle.meaning.specs.Calls.{localPermitted, differs, localMemory}
 use Rattle.meaning.proofs.Values.{permits-opened}
 use Rattle.meaning.proofs.Tests.{same-true, every-at}
@@ -80,7 +80,7 @@ nonempty-long [] = refl
 nonempty-long (x ∷ v) = lt-ltb 0 (suc (length v)) (omega arith)
 
 -- the entry as the code puts it together
-pub stored-is : (m : List ℕ) (k : ℕ) (v m′ : List ℕ) {s t q : Bool} {f : ℕ} → s ≡ subscribed m k → t ≡ same (body m k) v → q ≡ pending m k
-    → f ≡ flags (ltb 0 (length v)) s (q || (s && not t)) → m′ ≡ put m k f v → m′ ≡ localMemory m k v
+pub stored-is : (m : List ℕ) (k : ℕ) (v m′ : List ℕ) {s t : Bool} {f : ℕ} → s ≡ subscribed m k → t ≡ same (body m k) v
+    → f ≡ flags (ltb 0 (length v)) (subscribed m k) (pending m k || (s && not t)) (inFlight m k) → m′ ≡ put m k f v → m′ ≡ localMemory m k v
 unfolding localMemory differs
-stored-is m k v m′ a b c d e = e ∙ ap (λ (g : ℕ). put m k g v) (d ∙ rw (a, b, c, nonempty-long v))
+stored-is m k v m′ a b d e = e ∙ ap (λ (g : ℕ). put m k g v) (d ∙ rw (a, b, nonempty-long v))

@@ -42,14 +42,13 @@ pub fn permitted(name: usize, value: &[u8]) -> bool
     table::permits(k, value)
 }
 
-// The value stored in its room, or made absent (RULES 13.3, 13.4), and the mark that it leaves (RULES 13.5 to 13.9).
+// The value stored in its room, or made absent (RULES 13.3, 13.4), and the marks that it leaves (RULES 13.5 to 13.11).
 pub fn store(m: &mut [u8], k: usize, value: &[u8])
     requires { ⌜ (length (now m) ≡ memoryLength) × (k < entryCount) × (length (now value) ≤ rowAt k .most) ⌝ }
     ensures { λ _. ⌜ now (m .exit) ≡ localMemory (now (m .entry)) k (now (value .entry)) ⌝ }
 {
     let s = memory::subscribed(m, k);
     let differs = !same(memory::body(m, k), value);
-    let q = memory::pending(m, k) | (s & differs);
-    let f = memory::flags(0 < value.len(), s, q);
+    let f = memory::flags_with(m, k, 0 < value.len(), s & differs);
     memory::put(m, k, f, value);
 }

@@ -12,7 +12,7 @@ use Rattle.meaning.specs.Octets.{octet, zeros, flat, be16}
 use Rattle.meaning.specs.Checks.{passed, check}
 use Rattle.meaning.specs.Table.{Row, controller, port, nobody, rows, byController, byPort, rooms, roomAt}
 use Rattle.meaning.specs.Wire.{namesLength}
-use Rattle.meaning.specs.Memory.{cell, isPresent, isSubscribed, isPending, present, subscribed, pending, fresh}
+use Rattle.meaning.specs.Memory.{cell, isPresent, isSubscribed, isPending, isInFlight, present, subscribed, pending, inFlight, fresh}
 use Rattle.meaning.specs.Reply.{allNames}
 use Rattle.meaning.specs.Calls.{numberOnly, makeFresh}
 use Rattle.meaning.proofs.All.{all}
@@ -56,10 +56,11 @@ rooms-spelt = refl
 
 pub flag-bits : (m : List ℕ) (k : ℕ)
     → (present m k ≡ eqb (octet m (6 * k + 2) % 2) 1) × (subscribed m k ≡ eqb (octet m (6 * k + 2) / 2 % 2) 1) × (pending m k ≡ eqb (octet m (6 * k + 2) / 4 % 2) 1)
-unfolding present subscribed pending isPresent isSubscribed isPending cell
+    × (inFlight m k ≡ eqb (octet m (6 * k + 2) / 8 % 2) 1)
+unfolding present subscribed pending inFlight isPresent isSubscribed isPending isInFlight cell
 flag-bits m k =
     let e = part-octet m (6 * k) 6 2 (omega arith) in
-    (rw e, rw e, rw e)
+    (rw e, rw e, rw e, rw e)
 
 -- ---- fresh memory, octet by octet
 

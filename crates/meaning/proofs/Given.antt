@@ -12,7 +12,7 @@ use borrow.Author.Tests.{leb-true, le-leb, eqb-true}
 use Rattle.meaning.specs.Octets.{octet, nonempty, every, below, implies, same}
 use Rattle.meaning.specs.Table.{Owner, port, free, within, row, rowAt, rows, place, placeIn, listed, byPort, entryCount}
 use Rattle.meaning.specs.Block.{permits}
-use Rattle.meaning.specs.Memory.{cell, room, timer, body, present, subscribed, pending, sound}
+use Rattle.meaning.specs.Memory.{cell, room, timer, body, present, subscribed, pending, inFlight, sound}
 use Rattle.meaning.specs.Calls.{Outcome, numberOnly, localPermitted, localChecks, localMemory, localValue, differs}
 use Rattle.meaning.proofs.Lists.{Each}
 use Rattle.meaning.proofs.Tests.{or-cases, and-left, and-right, and-both, not-true, implied, same-true, same-refl, below-at, first-passed, all-passing}
@@ -89,7 +89,7 @@ unfolding below implies byPort rowAt rows
 all-places = refl
 
 -- a listed name at a known place
-name-at : (n k : ℕ) → listed n ≡ true → place n ≡ k → n ≡ rowAt k .name
+pub name-at : (n k : ℕ) → listed n ≡ true → place n ≡ k → n ≡ rowAt k .name
 name-at n k l e = sym (place-name n l) ∙ ap (λ (j : ℕ). rowAt j .name) e
 
 -- empty, or permitted by the row
@@ -177,6 +177,7 @@ pub record LocalLeaves (m : List ℕ) (k : ℕ) (v m′ : List ℕ) : Type 0 whe
   pub value : body m′ k ≡ v
   pub subscription : subscribed m′ k ≡ subscribed m k
   pub pendency : (pending m′ k ≡ true) ↔ ((pending m k ≡ true) ⊎ ((subscribed m k ≡ true) × (body m k ≢ v)))
+  pub flight : inFlight m′ k ≡ inFlight m k
   pub others : (j : ℕ) → j < entryCount → j ≢ k → (cell m′ j ≡ cell m j) × (room m′ j ≡ room m j)
   pub sameTimer : timer m′ ≡ timer m
 
@@ -207,6 +208,7 @@ local-done m n v s g =
       value = h .value;
       subscription = q .subscription;
       pendency = rw (q .pendency) (pending-spelt (pending m k) (subscribed m k) (differs m k v) (body m k ≢ v) (differs-spelt m k v));
+      flight = q .flight;
       others = unfold localMemory in λ j hj ne. (cell-put-other m k _ v hm hk hv j hj ne, room-put-other m k _ v hm hk hv j hj ne);
       sameTimer = unfold localMemory in timer-put m k _ v hm hk hv;
     }

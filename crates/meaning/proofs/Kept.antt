@@ -13,16 +13,17 @@ use Rattle.meaning.specs.Octets.{every, implies, nonempty}
 use Rattle.meaning.specs.Checks.{firstFailed, whenPassed}
 use Rattle.meaning.specs.Table.{Row, rowAt, rows, byPort, byController, place, listed, entryCount, memoryLength, commit}
 use Rattle.meaning.specs.Block.{sums, permits, keeps, formAndFit}
-use Rattle.meaning.specs.Memory.{cell, store, setMarks, setTimer, subscribed, pending, isPending, isSubscribed, expiries, fourPresent, timerSound, sound, fresh}
+use Rattle.meaning.specs.Memory.{waiting, store, setMarks, setTimer, subscribed, pending, inFlight, expiries, fourPresent, timerSound, sound, fresh}
 use Rattle.meaning.specs.Operation.{Op, capabilities, read, set, subscribe, unsubscribe, selectiveRead, selectiveSubscribe, selectiveUnsubscribe, deleteEntry}
 use Rattle.meaning.specs.Step.{block, commits, permitted, setChecks, stored, setMemory, subscribeMemory, unsubscribeMemory, step, after}
-use Rattle.meaning.specs.Calls.{Outcome, numberOnly, call, handled, carriedOut, acknowledged, isCommand, messageChecks, message, opsOf, localPermitted, differs, localMemory, localChecks, localValue, cleared, buildChecks, build, expired, expiryChecks, expiry, makeFresh}
+use Rattle.meaning.specs.Calls.{Outcome, numberOnly, call, Moment, whenSent, whenAcknowledged, whenGivenUp, inFlightAfter, turned, handled, carriedOut, acknowledged, isCommand, messageChecks, message, opsOf, localPermitted, differs, localMemory, localChecks, localValue, buildChecks, build, expired, expiryChecks, expiry, makeFresh}
 use Rattle.meaning.proofs.All.{all}
-use Rattle.meaning.proofs.Tests.{same-true, every-at, first-passed}
+use Rattle.meaning.proofs.Tests.{same-true, every-at, implied, first-passed}
 use Rattle.meaning.proofs.Values.{permits-opened}
 use Rattle.meaning.proofs.Blocks.{form-spelt}
-use Rattle.meaning.proofs.Places.{listed-place}
-use Rattle.meaning.proofs.Sound.{Sound, opened, entry-of, put-sound, setMarks-sound, setTimer-sound}
+use Rattle.meaning.proofs.Places.{listed-place, timer-setTimer}
+use Rattle.meaning.proofs.Sound.{Sound, opened, put-sound, setTimer-sound}
+use Rattle.meaning.proofs.Turned.{setMarks-sound, marks-of, Turned, turned-to}
 use Rattle.meaning.proofs.Checked.{call-memory, set-either}
 
 pub fresh-sound : sound fresh ≡ true
@@ -76,9 +77,9 @@ stored-permitted m k v e = go (ℕ-discrete k commit)
 
 pub store-sound : (m : List ℕ) (k : ℕ) (v : List ℕ) → Sound m → k < entryCount → permits (rowAt k) v ≡ true → (k ≡ commit → fourPresent m ≡ true)
     → sound (store m k v) ≡ true
-unfolding store subscribed pending
+unfolding store
 store-sound m k v S hk e four =
-    put-sound m k true (isSubscribed (cell m k)) (isPending (cell m k)) v S hk (permits-most (rowAt k) v e) (inl refl) (entry-of m S k hk .marks) e four
+    put-sound m k true (subscribed m k) (pending m k) (inFlight m k) v S hk (permits-most (rowAt k) v e) (inl refl) (marks-of m k S hk) e four
 
 -- what the checks of a set say where they pass
 pub record Settable (m : List ℕ) (n : ℕ) (v : List ℕ) : Type 0 where
@@ -112,22 +113,25 @@ subscribed-marks true false b e = absurd (false≢true e)
 subscribed-marks false o b e = refl
 
 subscribe-sound : (m : List ℕ) (n : ℕ) → sound m ≡ true → sound (subscribeMemory m n) ≡ true
-unfolding subscribeMemory pending
+unfolding subscribeMemory
 subscribe-sound m n s = go (listed n) refl
   where
-    go : (b : Bool) → listed n ≡ b → sound (cond b (setMarks m (place n) true (isPending (cell m (place n)))) m) ≡ true
+    go : (b : Bool) → listed n ≡ b → sound (cond b (setMarks m (place n) true (pending m (place n)) (inFlight m (place n))) m) ≡ true
     go true e =
         let S = opened m s in
+        let k = place n in
         let hk = listed-place n e in
-        setMarks-sound m (place n) true (isPending (cell m (place n))) S hk (subscribed-marks _ (isSubscribed (cell m (place n))) _ (entry-of m S (place n) hk .marks))
+        let r = marks-of m k S hk in
+        setMarks-sound m k true (pending m k) (inFlight m k) S hk
+        record { due = subscribed-marks _ (subscribed m k) _ (r .due); out = subscribed-marks _ (subscribed m k) _ (r .out) }
     go false e = s
 
 unsubscribe-sound : (m : List ℕ) (n : ℕ) → sound m ≡ true → sound (unsubscribeMemory m n) ≡ true
 unfolding unsubscribeMemory implies
 unsubscribe-sound m n s = go (listed n) refl
   where
-    go : (b : Bool) → listed n ≡ b → sound (cond b (setMarks m (place n) false false) m) ≡ true
-    go true e = setMarks-sound m (place n) false false (opened m s) (listed-place n e) refl
+    go : (b : Bool) → listed n ≡ b → sound (cond b (setMarks m (place n) false false false) m) ≡ true
+    go true e = setMarks-sound m (place n) false false false (opened m s) (listed-place n e) record { due = refl; out = refl }
     go false e = s
 
 -- ---- every operation, and every list of them
@@ -151,14 +155,19 @@ after-sound m (o ∷ os) s = after-sound (step m o) os (step-sound m o s)
 
 -- ---- a message
 
--- a command leaves the memory after its operations, an acknowledgement the timer idle and all else as it was
-pub handled-either : (P : List ℕ → Type 0) (m s : List ℕ) → P (after m (opsOf s)) → P (setTimer m 0 0) → P (handled m s .memory)
+-- the timer made idle, and the marks of what was waiting turned before
+abbrev pub idled : Moment → List ℕ → List ℕ
+idled t m = setTimer (turned t entryCount m) 0 0
+
+-- a command leaves the memory after its operations, an acknowledgement that of what is acknowledged
+pub handled-either : (P : List ℕ → Type 0) (m s : List ℕ) → (isCommand s ≡ true → P (after m (opsOf s))) → (isCommand s ≡ false → P (idled whenAcknowledged m))
+    → P (handled m s .memory)
 unfolding handled carriedOut acknowledged
-handled-either P m s f g = go (isCommand s)
+handled-either P m s f g = go (isCommand s) refl
   where
-    go : (b : Bool) → P (cond b (carriedOut m (opsOf s)) (acknowledged m) .memory)
-    go true = f
-    go false = g
+    go : (b : Bool) → isCommand s ≡ b → P (cond b (carriedOut m (opsOf s)) (acknowledged m) .memory)
+    go true e = f e
+    go false e = g e
 
 abbrev IsSound : List ℕ → Type 0
 IsSound m = sound m ≡ true
@@ -171,11 +180,36 @@ timer-waiting : (n : ℕ) → n ≤ 4 → timerSound (1 ∷ n ∷ []) ≡ true
 unfolding timerSound
 timer-waiting n h = le-leb n 4 h
 
+-- nothing is in flight once a notification is acknowledged or given up, so the port may be idle then
+pub idled-sound : (t : Moment) (m : List ℕ) → ((q i : Bool) → inFlightAfter t q i ≡ false) → sound m ≡ true → waiting m ≡ true → sound (idled t m) ≡ true
+idled-sound t m none s w =
+    let T = turned-to t entryCount m (omega arith) s w in
+    setTimer-sound (turned t entryCount m) 0 0 (opened (turned t entryCount m) (T .isSound)) timer-idle
+    (λ j hj e. absurd (false≢true (sym (none _ _) ∙ sym (T .marks j hj .flight) ∙ e)))
+
+pub none-acknowledged : (q i : Bool) → inFlightAfter whenAcknowledged q i ≡ false
+unfolding inFlightAfter
+none-acknowledged q i = refl
+
+pub none-given-up : (q i : Bool) → inFlightAfter whenGivenUp q i ≡ false
+unfolding inFlightAfter
+none-given-up q i = refl
+
+-- the check of an acknowledgement that is taken
+pub acknowledged-waits : (m s room : List ℕ) → firstFailed (messageChecks m s (length room)) ≡ 0 → isCommand s ≡ false → waiting m ≡ true
+unfolding messageChecks
+acknowledged-waits m s room e c =
+    let known = first-passed 3 _ _ (first-passed 2 _ _ (first-passed 1 _ _ (first-passed 0 _ _ e .1) .1) .1) in
+    let idle = first-passed 7 _ _ (first-passed 5 _ _ (first-passed 4 _ _ (known .1) .1) .1) in
+    implied _ _ (idle .0) (rw c at (known .0))
+
 pub message-sound : (m s room : List ℕ) → sound m ≡ true → sound (message m s room .memory) ≡ true
 unfolding message
 message-sound m s room h =
     call-memory IsSound (messageChecks m s (length room)) _ m room h
-    (λ e. handled-either IsSound m s (after-sound m (opsOf s) h) (setTimer-sound m 0 0 (opened m h) timer-idle))
+    (λ e.
+    handled-either IsSound m s (λ c. after-sound m (opsOf s) h)
+    (λ c. idled-sound whenAcknowledged m none-acknowledged h (acknowledged-waits m s room e c)))
 
 -- ---- a local value
 
@@ -206,15 +240,15 @@ unfolding localPermitted
 local-opened n v e = record { isListed = every-at _ 0 e; byThePort = every-at _ 1 e; allowed = every-at _ 2 e }
 
 local-sound : (m : List ℕ) (n : ℕ) (v : List ℕ) → sound m ≡ true → Local n v → sound (localMemory m (place n) v) ≡ true
-unfolding localMemory subscribed pending
+unfolding localMemory
 local-sound m n v s l =
     let S = opened m s in
     let k = place n in
     let hk = listed-place n (l .isListed) in
     let h = local-held (rowAt k) v (l .allowed) in
-    let c = cell m k in
-    put-sound m k (nonempty v) (isSubscribed c) (isPending c || (isSubscribed c && differs m k v)) v S hk (h .1) (inr (l .byThePort))
-    (local-marks _ (isSubscribed c) (differs m k v) _ (entry-of m S k hk .marks) (l .byThePort))
+    let r = marks-of m k S hk in
+    put-sound m k (nonempty v) (subscribed m k) (pending m k || (subscribed m k && differs m k v)) (inFlight m k) v S hk (h .1) (inr (l .byThePort))
+    record { due = local-marks _ (subscribed m k) (differs m k v) _ (r .due) (l .byThePort); out = r .out }
     (h .0)
     (λ e. absurd (false≢true (sym commit-not-port ∙ ap (λ (j : ℕ). byPort (rowAt j .owner)) (sym e) ∙ l .byThePort)))
 
@@ -226,33 +260,34 @@ localValue-sound m n v s =
 
 -- ---- a notification, an expiry, making it fresh
 
-pub cleared-sound : (k : ℕ) (m : List ℕ) → k ≤ entryCount → sound m ≡ true → sound (cleared k m) ≡ true
-unfolding cleared implies
-cleared-sound zero m h s = s
-cleared-sound (suc k) m h s =
-    let c = cleared k m in
-    setMarks-sound c k (subscribed c k) false (opened c (cleared-sound k m (omega arith) s)) (omega arith) refl
+-- the timer set to wait
+pub waits-sound : (m : List ℕ) (n : ℕ) → sound m ≡ true → n ≤ 4 → sound (setTimer m 1 n) ≡ true
+waits-sound m n s h = setTimer-sound m 1 n (opened m s) (timer-waiting n h) (λ j hj e. refl)
+
+pub waits-now : (m : List ℕ) (n : ℕ) → Sound m → waiting (setTimer m 1 n) ≡ true
+unfolding waiting
+waits-now m n S = rw (timer-setTimer m 1 n (S .long))
 
 pub build-sound : (m room : List ℕ) → sound m ≡ true → sound (build m room .memory) ≡ true
 unfolding build
 build-sound m room s =
     call-memory IsSound (buildChecks m (length room)) _ m room s
-    (λ e. setTimer-sound (cleared entryCount m) 1 0 (opened (cleared entryCount m) (cleared-sound entryCount m (omega arith) s)) (timer-waiting 0 (omega arith)))
+    (λ e. turned-to whenSent entryCount (setTimer m 1 0) (omega arith) (waits-sound m 0 s (omega arith)) (waits-now m 0 (opened m s)) .isSound)
 
 abbrev againOr : List ℕ → Bool → Outcome
-againOr m b = cond b (numberOnly 20 (setTimer m 1 (expiries m + 1)) []) (numberOnly 21 (setTimer m 0 0) [])
+againOr m b = cond b (numberOnly 20 (setTimer m 1 (expiries m + 1)) []) (numberOnly 21 (idled whenGivenUp m) [])
 
 -- expiries 1 to 4 send again, the fifth gives up
 pub expired-again : (m : List ℕ) → expiries m < 4 → expired m ≡ numberOnly 20 (setTimer m 1 (expiries m + 1)) []
 unfolding expired
 expired-again m h = ap (againOr m) (lt-ltb (expiries m) 4 h)
 
-pub expired-last : (m : List ℕ) → 4 ≤ expiries m → expired m ≡ numberOnly 21 (setTimer m 0 0) []
+pub expired-last : (m : List ℕ) → 4 ≤ expiries m → expired m ≡ numberOnly 21 (idled whenGivenUp m) []
 unfolding expired
 expired-last m h = ap (againOr m) (le-ltb (expiries m) 4 h)
 
 -- what holds of both holds of an expiry
-pub expired-either : (P : Outcome → Type 0) (m : List ℕ) → (expiries m < 4 → P (numberOnly 20 (setTimer m 1 (expiries m + 1)) [])) → P (numberOnly 21 (setTimer m 0 0) [])
+pub expired-either : (P : Outcome → Type 0) (m : List ℕ) → (expiries m < 4 → P (numberOnly 20 (setTimer m 1 (expiries m + 1)) [])) → P (numberOnly 21 (idled whenGivenUp m) [])
     → P (expired m)
 expired-either P m f g = go (decLe 4 (expiries m))
   where
@@ -261,13 +296,13 @@ expired-either P m f g = go (decLe 4 (expiries m))
     go (no h) = rw (expired-again m (omega arith)) (f (omega arith))
 
 pub expiry-sound : (m : List ℕ) → sound m ≡ true → sound (expiry m .memory) ≡ true
-unfolding expiry
+unfolding expiry expiryChecks
 expiry-sound m s =
     call-memory IsSound (expiryChecks m) (expired m) m [] s
     (λ e.
     expired-either (λ o. IsSound (o .memory)) m
-    (λ h. setTimer-sound m 1 (expiries m + 1) (opened m s) (timer-waiting (expiries m + 1) (omega arith)))
-    (setTimer-sound m 0 0 (opened m s) timer-idle))
+    (λ h. waits-sound m (expiries m + 1) s (omega arith))
+    (idled-sound whenGivenUp m none-given-up s (first-passed 7 _ _ (first-passed 0 _ _ e .1) .0)))
 
 -- from any memory, of any content
 pub makeFresh-sound : (m : List ℕ) → length m ≡ memoryLength → sound (makeFresh m .memory) ≡ true

@@ -12,7 +12,7 @@ use Rattle.meaning.proofs.Edges.{four, one, two, right, exact, blockOf}
 
 -- ---- the form
 
--- an entry: its name, its flags (1 present, 2 subscribed, 4 pending), its value, the length of its room
+-- an entry: its name, its flags (1 present, 2 subscribed, 4 pending, 8 in flight), its value, the length of its room
 pub record LaidEntry : Type 0 where
   pub name : ℕ
   pub flags : ℕ
@@ -85,16 +85,18 @@ full =
     ∷ holding 0x8001 3 runningBlock 470
     ∷ []
 
--- memories that are sound: waiting with the most expiries, and the four values changed under the block that runs
+-- memories that are sound: waiting with the most expiries, the four values changed under the block that runs, and in flight what is present, what is
+-- absent, and what is pending beside
 unfoldable pub sounds : List (List ℕ)
 unfolding laid with full runningBlock one two right exact blockOf
 sounds =
     laid full 1 4
     ∷ laid (with 4 (holding 0x0006 1 [] 448) full) 0 0
     ∷ laid (with 18 (holding 0x8001 1 (blockOf right (four 0 0 0 1) two exact) 470) full) 1 0
+    ∷ laid (with 0 (holding 0x0001 11 (replicate 8 0xFF) 8) (with 6 (holding 0x0008 15 (four 1 2 3 4) 4) (with 16 (holding 0x00A3 10 [] 255) full))) 1 0
     ∷ []
 
-pub laid-sound : map sound sounds ≡ replicate 3 true
+pub laid-sound : map sound sounds ≡ replicate 4 true
 unfolding all laid with full runningBlock one two right exact blockOf sounds
 laid-sound = refl
 
@@ -108,9 +110,12 @@ wrongEntries =
     with 0 (holding 0x0002 1 (replicate 8 0xFF) 8) full
     ∷ with 1 (holding 0x0103 1 (1 ∷ []) 1) full
     -- another flag, and pending without its right (RULES 5.4 to 5.6)
-    ∷ with 1 (holding 0x0003 9 (1 ∷ []) 1) full
+    ∷ with 1 (holding 0x0003 17 (1 ∷ []) 1) full
     ∷ with 1 (holding 0x0003 7 (1 ∷ []) 1) full
     ∷ with 6 (holding 0x0008 5 (four 1 2 3 4) 4) full
+    -- in flight while idle (RULES 5.17)
+    ∷ with 6 (holding 0x0008 11 (four 1 2 3 4) 4) full
+    ∷ with 16 (holding 0x00A3 14 [] 255) full
     -- absent with a length, present with a wrong one, a value that breaks its rule (RULES 5.8, 5.9)
     ∷ with 0 (holding 0x0001 2 (replicate 8 0) 8) full
     ∷ with 0 (holding 0x0001 1 (replicate 7 0) 8) full
@@ -128,6 +133,17 @@ wrongEntries =
     ∷ with 18 (holding 0x8001 1 (blockOf right (four 0 0 0 2) (two ++ two) exact) 470) full
     ∷ []
 
+-- in flight without its right, though the port waits (RULES 5.4 to 5.6)
+unfoldable pub wrongFlights : List (List LaidEntry)
+unfolding with full runningBlock one two right exact blockOf
+wrongFlights =
+    with 1 (holding 0x0003 11 (1 ∷ []) 1) full
+    ∷ with 7 (holding 0x000B 11 (four 0 0 0 64) 4) full
+    ∷ with 6 (holding 0x0008 9 (four 1 2 3 4) 4) full
+    ∷ with 6 (holding 0x0008 13 (four 1 2 3 4) 4) full
+    ∷ with 6 (holding 0x0008 27 (four 1 2 3 4) 4) full
+    ∷ []
+
 -- octets that no entry spells: the length of all, octet 3 of a cell, a length past the room, the tail of a room, the timer (RULES 5.1, 5.3, 5.7, 5.13, 5.14)
 unfoldable pub wrongOctets : List (List ℕ)
 unfolding laid full runningBlock one two right exact blockOf
@@ -143,6 +159,7 @@ wrongOctets =
     ∷ laid full 2 0
     ∷ []
 
-pub laid-unsound : map sound (map (λ (es : List LaidEntry). laid es 0 0) wrongEntries ++ wrongOctets) ≡ replicate 27 false
-unfolding all laid with full runningBlock one two right exact blockOf wrongEntries wrongOctets
+pub laid-unsound : map sound (map (λ (es : List LaidEntry). laid es 0 0) wrongEntries ++ (map (λ (es : List LaidEntry). laid es 1 0) wrongFlights ++ wrongOctets))
+    ≡ replicate 34 false
+unfolding all laid with full runningBlock one two right exact blockOf wrongEntries wrongFlights wrongOctets
 laid-unsound = refl

@@ -8,6 +8,7 @@ pub mod Values
 pub mod Blocks
 pub mod Sound
 pub mod Spelt
+pub mod Turned
 pub mod Checked
 pub mod Kept
 pub mod Marks
@@ -39,6 +40,9 @@ pub mod Numbers
 pub mod Positions
 pub mod Timer
 pub mod Sendings
+pub mod Flights
+pub mod Told
+pub mod NotLost
 pub mod Longest
 pub mod Delays
 pub mod Edges

@@ -161,6 +161,8 @@ reported =
     ∷ turn takeExpiry 21 []
     ∷ turn takeExpiry 8 []
     ∷ turn (takeValue 0x00A4 (0 ∷ 120 ∷ [])) 0 []
+    ∷ turn (buildIn (zeros 1600)) 0 (3 ∷ withLength (withCount [] ++ withCount (failedRecord 0x00A1 3 ∷ [])))
+    ∷ turn acknowledgement 0 (5 ∷ [])
     ∷ turn (buildIn (zeros 1600)) 9 []
     ∷ turn (takeValue 0x00A4 (0 ∷ 121 ∷ [])) 0 []
     ∷ turn (takeValue 0x0008 (four 1 2 3 5)) 0 []
@@ -177,6 +179,50 @@ reported-entries =
 pub reported-life : agrees (lived fresh (calls reported)) (record { results = results reported; left = laid reported-entries 0 0 }) ≡ true
 unfolding all gives agrees sameOctets sameResults lived reported command acknowledgement reading subscribing unsubscribing withLength twoOctets heldRecord failedRecord withCount laid with fresh-entries reported-entries
 reported-life = refl
+
+-- ---- a modem is lost: what was told is told again, and what changed meanwhile with it
+
+unfoldable pub lost : List Turn
+unfolding command acknowledgement setting subscribing unsubscribing withLength twoOctets heldRecord shortRecord failedRecord withCount
+lost =
+    turn (command (subscribing 0x0008 ∷ subscribing 0x00A0 ∷ subscribing 0x00A1 ∷ subscribing 0x00A4 ∷ [])) 0 (2 ∷ [])
+    ∷ turn (takeValue 0x0008 (four 1 2 3 4)) 0 []
+    ∷ turn (takeValue 0x00A0 (7 ∷ [])) 0 []
+    ∷ turn (takeValue 0x00A4 (0 ∷ 120 ∷ [])) 0 []
+    ∷ turn (buildIn (zeros 1600)) 0
+    (3 ∷ withLength (withCount (heldRecord 0x0008 (four 1 2 3 4) ∷ heldRecord 0x00A0 (7 ∷ []) ∷ heldRecord 0x00A4 (0 ∷ 120 ∷ []) ∷ []) ++ withCount []))
+    ∷ turn takeExpiry 20 []
+    -- in flight 0008 changes, 00A0 does not, 00A4 is let go; 00A1 was not told
+    ∷ turn (takeValue 0x0008 (four 1 2 3 5)) 0 []
+    ∷ turn (takeValue 0x00A0 (7 ∷ [])) 0 []
+    ∷ turn (takeValue 0x00A1 (9 ∷ 9 ∷ [])) 0 []
+    ∷ turn (command (unsubscribing 0x00A4 ∷ subscribing 0x00A4 ∷ subscribing 0x00A0 ∷ setting 0x0003 (1 ∷ []) ∷ [])) 0
+    (2 ∷ 0x72 ∷ withLength (withCount (shortRecord 0x0003 (1 ∷ []) ∷ []) ++ withCount []))
+    ∷ turn takeExpiry 20 []
+    ∷ turn takeExpiry 20 []
+    ∷ turn takeExpiry 20 []
+    ∷ turn takeExpiry 21 []
+    ∷ turn (buildIn (zeros 1600)) 0
+    (3 ∷ withLength (withCount (heldRecord 0x0008 (four 1 2 3 5) ∷ heldRecord 0x00A0 (7 ∷ []) ∷ heldRecord 0x00A1 (9 ∷ 9 ∷ []) ∷ []) ++ withCount []))
+    -- what changes in flight is still to be told once that is acknowledged
+    ∷ turn (takeValue 0x00A1 []) 0 []
+    ∷ turn acknowledgement 0 (5 ∷ [])
+    ∷ turn (buildIn (zeros 1600)) 0 (3 ∷ withLength (withCount [] ++ withCount (failedRecord 0x00A1 3 ∷ [])))
+    ∷ turn (takeValue 0x00A0 (6 ∷ [])) 0 []
+    ∷ turn (takeValue 0x00A1 (8 ∷ [])) 0 []
+    ∷ []
+
+unfoldable pub lost-entries : List LaidEntry
+unfolding fresh-entries with
+lost-entries =
+    with 1 (holding 0x0003 1 (1 ∷ []) 1)
+    (with 6 (holding 0x0008 3 (four 1 2 3 5) 4)
+    (with 13 (holding 0x00A0 7 (6 ∷ []) 1)
+    (with 14 (holding 0x00A1 15 (8 ∷ []) 255) (with 17 (holding 0x00A4 3 (0 ∷ 120 ∷ []) 2) fresh-entries))))
+
+pub lost-life : agrees (lived fresh (calls lost)) (record { results = results lost; left = laid lost-entries 1 0 }) ≡ true
+unfolding all gives agrees sameOctets sameResults lived lost command acknowledgement setting subscribing unsubscribing withLength twoOctets heldRecord shortRecord failedRecord withCount laid with fresh-entries lost-entries
+lost-life = refl
 
 -- ---- made fresh
 

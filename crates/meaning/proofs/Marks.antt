@@ -1,4 +1,4 @@
--- What the subscribed and pending marks do: a set (RULES 11.12), subscribe and unsubscribe (RULES 11.21 to 11.24), a local value (RULES 13.5 to 13.9).
+-- What becomes of the marks by a set (RULES 11.12), by subscribe and unsubscribe (RULES 11.21 to 11.24) and by a local value (RULES 13.5 to 13.11).
 use Prim.Native.Nat.{ℕ, zero, suc, _≤_, _<_}
 use native.Mathlib.Omega.{arith}
 use native.Mathlib.Decide.{ℕ-discrete}
@@ -12,63 +12,37 @@ use borrow.Author.Tests.{leb-true, eqb-true, not-false}
 use Rattle.meaning.specs.Octets.{same, nonempty, below, implies}
 use Rattle.meaning.specs.Checks.{firstFailed}
 use Rattle.meaning.specs.Table.{rowAt, rows, place, listed, byPort, entryCount}
-use Rattle.meaning.specs.Memory.{cell, room, timer, size, body, flags, put, store, setMarks, present, subscribed, pending, sound}
+use Rattle.meaning.specs.Memory.{cell, room, timer, size, body, flags, put, store, setMarks, present, subscribed, pending, inFlight, sound}
 use Rattle.meaning.specs.Step.{stored, setChecks, setMemory, subscribeMemory, unsubscribeMemory}
-use Rattle.meaning.specs.Calls.{differs, localMemory, cleared}
+use Rattle.meaning.specs.Calls.{differs, localMemory}
 use Rattle.meaning.proofs.Tests.{same-true, same-refl, implied, below-at}
 use Rattle.meaning.proofs.Values.{permits-opened}
-use Rattle.meaning.proofs.Places.{listed-place, timer-putCell, cell-put-same, cell-put-other}
+use Rattle.meaning.proofs.Places.{listed-place, cell-put-same, cell-put-other}
 use Rattle.meaning.proofs.Checked.{set-either}
-use Rattle.meaning.proofs.Sound.{Sound, opened, entry-of, subscribed-cellOf, pending-cellOf, cell-setMarks-same, cell-setMarks-other, room-setMarks, present-setMarks, body-setMarks}
-use Rattle.meaning.proofs.Kept.{permits-most, stored-permitted, settable, Local, local-held, cleared-sound}
+use Rattle.meaning.proofs.Sound.{Sound, opened, entry-of, flags-cellOf}
+use Rattle.meaning.proofs.Turned.{cell-setMarks-other, room-setMarks, present-setMarks, body-setMarks, timer-setMarks, Marked, SameMarks, cell-marks, setMarks-marks, setMarks-marks-other}
+use Rattle.meaning.proofs.Kept.{permits-most, stored-permitted, settable, Local, local-held}
 use Rattle.meaning.proofs.Commit.{body-permitted}
 
--- the marks of the entry at place j
-pub record Marked (m : List ℕ) (j : ℕ) (s q : Bool) : Type 0 where
-  pub subscription : subscribed m j ≡ s
-  pub pendency : pending m j ≡ q
+-- ---- an entry put
 
--- both marks of an entry as they were
-abbrev pub SameMarks : List ℕ → List ℕ → ℕ → Type 0
-SameMarks m m′ j = Marked m′ j (subscribed m j) (pending m j)
-
--- ---- an entry put, and marks set
-
-module _ (m : List ℕ) (k : ℕ) (p s q : Bool) (v : List ℕ) (S : Sound m) (hk : k < entryCount) (hv : length v ≤ rowAt k .most) where
-  put-marks : Marked (put m k (flags p s q) v) k s q
-  unfolding subscribed pending
+module _ (m : List ℕ) (k : ℕ) (p s q i : Bool) (v : List ℕ) (S : Sound m) (hk : k < entryCount) (hv : length v ≤ rowAt k .most) where
+  put-marks : Marked (put m k (flags p s q i) v) k s q i
+  unfolding subscribed pending inFlight
   put-marks =
-      let e = cell-put-same m k (flags p s q) v (S .long) hk hv in
-      record { subscription = rw e (subscribed-cellOf k p s q (length v)); pendency = rw e (pending-cellOf k p s q (length v)) }
+      let e = cell-put-same m k (flags p s q i) v (S .long) hk hv in
+      let f = flags-cellOf k p s q i (length v) in
+      record { subscription = rw e (f .isWanted); pendency = rw e (f .isDue); flight = rw e (f .isOut) }
 
-  put-marks-other : (j : ℕ) → j < entryCount → j ≢ k → SameMarks m (put m k (flags p s q) v) j
-  unfolding subscribed pending
-  put-marks-other j hj ne =
-      let e = cell-put-other m k (flags p s q) v (S .long) hk hv j hj ne in
-      record { subscription = rw e; pendency = rw e }
-
-module _ (m : List ℕ) (k : ℕ) (s q : Bool) (S : Sound m) (hk : k < entryCount) where
-  pub setMarks-marks : Marked (setMarks m k s q) k s q
-  unfolding subscribed pending
-  setMarks-marks =
-      let e = cell-setMarks-same m k s q S hk in
-      record {
-        subscription = rw e (subscribed-cellOf k (present m k) s q (size (cell m k)));
-        pendency = rw e (pending-cellOf k (present m k) s q (size (cell m k)));
-      }
-
-  pub setMarks-marks-other : (j : ℕ) → j ≢ k → SameMarks m (setMarks m k s q) j
-  unfolding subscribed pending
-  setMarks-marks-other j ne =
-      let e = cell-setMarks-other m k s q S hk j ne in
-      record { subscription = rw e; pendency = rw e }
+  put-marks-other : (j : ℕ) → j < entryCount → j ≢ k → SameMarks m (put m k (flags p s q i) v) j
+  put-marks-other j hj ne = cell-marks m (put m k (flags p s q i) v) j (cell-put-other m k (flags p s q i) v (S .long) hk hv j hj ne)
 
 -- ---- a set leaves every mark (RULES 11.12)
 
 pub set-marks : (m : List ℕ) (n : ℕ) (v : List ℕ) → sound m ≡ true → (j : ℕ) → j < entryCount → SameMarks m (setMemory m n v) j
 unfolding store
 set-marks m n v s j hj =
-    set-either m n v (λ m′. SameMarks m m′ j) (λ e. put-there e (ℕ-discrete j (place n))) (record { subscription = refl; pendency = refl })
+    set-either m n v (λ m′. SameMarks m m′ j) (λ e. put-there e (ℕ-discrete j (place n))) (cell-marks m m j refl)
   where
     put-there : firstFailed (setChecks m n v) ≡ 0 → Dec (j ≡ place n) → SameMarks m (store m (place n) (stored m (place n) v)) j
     put-there e d =
@@ -77,30 +51,30 @@ set-marks m n v s j hj =
         let w = stored m k v in
         let hk = listed-place n (t .isListed) in
         let hv = permits-most (rowAt k) w (stored-permitted m k v (t .allowed) .0) in
-        let at : Dec (j ≡ k) → SameMarks m (put m k (flags true (subscribed m k) (pending m k)) w) j =
+        let at : Dec (j ≡ k) → SameMarks m (put m k (flags true (subscribed m k) (pending m k) (inFlight m k)) w) j =
         elim [
-          | yes i ↦ rw i (put-marks m k true (subscribed m k) (pending m k) w (opened m s) hk hv)
-          | no ne ↦ put-marks-other m k true (subscribed m k) (pending m k) w (opened m s) hk hv j hj ne
+          | yes y ↦ rw y (put-marks m k true (subscribed m k) (pending m k) (inFlight m k) w (opened m s) hk hv)
+          | no ne ↦ put-marks-other m k true (subscribed m k) (pending m k) (inFlight m k) w (opened m s) hk hv j hj ne
         ] in
         at d
 
 -- ---- subscribe and unsubscribe (RULES 11.21, 11.22)
 
-pub subscribe-marks : (m : List ℕ) (n : ℕ) → sound m ≡ true → listed n ≡ true → Marked (subscribeMemory m n) (place n) true (pending m (place n))
+pub subscribe-marks : (m : List ℕ) (n : ℕ) → sound m ≡ true → listed n ≡ true → Marked (subscribeMemory m n) (place n) true (pending m (place n)) (inFlight m (place n))
 unfolding subscribeMemory
-subscribe-marks m n s e = rw e (setMarks-marks m (place n) true (pending m (place n)) (opened m s) (listed-place n e))
+subscribe-marks m n s e = rw e (setMarks-marks m (place n) true (pending m (place n)) (inFlight m (place n)) (opened m s) (listed-place n e))
 
-pub unsubscribe-marks : (m : List ℕ) (n : ℕ) → sound m ≡ true → listed n ≡ true → Marked (unsubscribeMemory m n) (place n) false false
+pub unsubscribe-marks : (m : List ℕ) (n : ℕ) → sound m ≡ true → listed n ≡ true → Marked (unsubscribeMemory m n) (place n) false false false
 unfolding unsubscribeMemory
-unsubscribe-marks m n s e = rw e (setMarks-marks m (place n) false false (opened m s) (listed-place n e))
+unsubscribe-marks m n s e = rw e (setMarks-marks m (place n) false false false (opened m s) (listed-place n e))
 
 pub subscribe-others : (m : List ℕ) (n : ℕ) → sound m ≡ true → listed n ≡ true → (j : ℕ) → j ≢ place n → SameMarks m (subscribeMemory m n) j
 unfolding subscribeMemory
-subscribe-others m n s e j ne = rw e (setMarks-marks-other m (place n) true (pending m (place n)) (opened m s) (listed-place n e) j ne)
+subscribe-others m n s e j ne = rw e (setMarks-marks-other m (place n) true (pending m (place n)) (inFlight m (place n)) (opened m s) (listed-place n e) j ne)
 
 pub unsubscribe-others : (m : List ℕ) (n : ℕ) → sound m ≡ true → listed n ≡ true → (j : ℕ) → j ≢ place n → SameMarks m (unsubscribeMemory m n) j
 unfolding unsubscribeMemory
-unsubscribe-others m n s e j ne = rw e (setMarks-marks-other m (place n) false false (opened m s) (listed-place n e) j ne)
+unsubscribe-others m n s e j ne = rw e (setMarks-marks-other m (place n) false false false (opened m s) (listed-place n e) j ne)
 
 -- all but the marks of one entry: presence and value of each, every octet of the others, every room and the timer
 pub record MarksOnly (m : List ℕ) (k : ℕ) (m′ : List ℕ) : Type 0 where
@@ -110,49 +84,43 @@ pub record MarksOnly (m : List ℕ) (k : ℕ) (m′ : List ℕ) : Type 0 where
   pub rooms : (j : ℕ) → j < entryCount → room m′ j ≡ room m j
   pub sameTimer : timer m′ ≡ timer m
 
-marks-only : (m : List ℕ) (k : ℕ) (s q : Bool) → Sound m → k < entryCount → MarksOnly m k (setMarks m k s q)
-marks-only m k s q S hk =
+marks-only : (m : List ℕ) (k : ℕ) (s q i : Bool) → Sound m → k < entryCount → MarksOnly m k (setMarks m k s q i)
+marks-only m k s q i S hk =
     record {
-      presences = present-setMarks m k s q S hk;
-      values = body-setMarks m k s q S hk;
-      others = cell-setMarks-other m k s q S hk;
-      rooms = room-setMarks m k s q S hk;
-      sameTimer = unfold setMarks in timer-putCell m k _ _ (S .long) hk;
+      presences = present-setMarks m k s q i S hk;
+      values = body-setMarks m k s q i S hk;
+      others = cell-setMarks-other m k s q i S hk;
+      rooms = room-setMarks m k s q i S hk;
+      sameTimer = timer-setMarks m k s q i S hk;
     }
 
 pub subscribe-leaves : (m : List ℕ) (n : ℕ) → sound m ≡ true → listed n ≡ true → MarksOnly m (place n) (subscribeMemory m n)
 unfolding subscribeMemory
-subscribe-leaves m n s e = rw e (marks-only m (place n) true (pending m (place n)) (opened m s) (listed-place n e))
+subscribe-leaves m n s e = rw e (marks-only m (place n) true (pending m (place n)) (inFlight m (place n)) (opened m s) (listed-place n e))
 
 pub unsubscribe-leaves : (m : List ℕ) (n : ℕ) → sound m ≡ true → listed n ≡ true → MarksOnly m (place n) (unsubscribeMemory m n)
 unfolding unsubscribeMemory
-unsubscribe-leaves m n s e = rw e (marks-only m (place n) false false (opened m s) (listed-place n e))
+unsubscribe-leaves m n s e = rw e (marks-only m (place n) false false false (opened m s) (listed-place n e))
 
 -- nothing for other names (RULES 11.24)
 pub unlisted-nothing : (m : List ℕ) (n : ℕ) → listed n ≡ false → (subscribeMemory m n ≡ m) × (unsubscribeMemory m n ≡ m)
 unfolding subscribeMemory unsubscribeMemory
 unlisted-nothing m n e = (rw e, rw e)
 
--- ---- pending marks cleared
-
--- presence and value of every entry as they were
-pub cleared-values : (k : ℕ) (m : List ℕ) → k ≤ entryCount → sound m ≡ true → (j : ℕ) → j < entryCount
-    → (present (cleared k m) j ≡ present m j) × (body (cleared k m) j ≡ body m j)
-unfolding cleared
-cleared-values zero m h s j hj = (refl, refl)
-cleared-values (suc k) m h s j hj =
-    let c = cleared k m in
-    let S = opened c (cleared-sound k m (omega arith) s) in
-    let ih = cleared-values k m (omega arith) s j hj in
-    (present-setMarks c k (subscribed c k) false S (omega arith) j hj ∙ ih .0, body-setMarks c k (subscribed c k) false S (omega arith) j hj ∙ ih .1)
-
--- ---- a local value: pending if it was, or if the name is subscribed and the value or its presence differs
+-- ---- a local value: pending if it was, or if the name is subscribed and the value or its presence differs; in flight as it was
 
 pub local-marks-after : (m : List ℕ) (n : ℕ) (v : List ℕ) → sound m ≡ true → Local n v
-    → Marked (localMemory m (place n) v) (place n) (subscribed m (place n)) (pending m (place n) || (subscribed m (place n) && differs m (place n) v))
+    → Marked (localMemory m (place n) v) (place n) (subscribed m (place n)) (pending m (place n) || (subscribed m (place n) && differs m (place n) v)) (inFlight m (place n))
 unfolding localMemory
 local-marks-after m n v s l =
-    put-marks m (place n) (nonempty v) (subscribed m (place n)) _ v (opened m s) (listed-place n (l .isListed)) (local-held (rowAt (place n)) v (l .allowed) .1)
+    put-marks m (place n) (nonempty v) (subscribed m (place n)) _ (inFlight m (place n)) v (opened m s) (listed-place n (l .isListed)) (local-held (rowAt (place n)) v (l .allowed) .1)
+
+-- every other entry's marks stay
+pub local-marks-others : (m : List ℕ) (n : ℕ) (v : List ℕ) → sound m ≡ true → Local n v → (j : ℕ) → j < entryCount → j ≢ place n → SameMarks m (localMemory m (place n) v) j
+unfolding localMemory
+local-marks-others m n v s l j hj ne =
+    put-marks-other m (place n) (nonempty v) (subscribed m (place n)) _ (inFlight m (place n)) v (opened m s) (listed-place n (l .isListed))
+    (local-held (rowAt (place n)) v (l .allowed) .1) j hj ne
 
 -- no value that the port sets is empty
 abbrev never-empty : ℕ → Bool

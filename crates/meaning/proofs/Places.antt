@@ -9,10 +9,10 @@ use mathlib.Core.List.{List, [], _∷_}
 use lib.ListN.{length, length-append, length-replicate}
 use lib.Dec.{eqb, leb, ltb}
 use borrow.Author.Tests.{leb-true, ltb-true, eqb-true}
-use Rattle.meaning.specs.Octets.{part, splice, be16, below}
+use Rattle.meaning.specs.Octets.{octet, part, splice, be16, below}
 use Rattle.meaning.specs.Table.{rowAt, rows, rooms, roomAt, entryCount, memoryLength, bodiesAt, timerAt, place, placeIn, listed, gateEnabled, adminBaseTime, adminControlListLength, adminControlList, adminCycleTime, supportedListMax, commit}
-use Rattle.meaning.specs.Memory.{cellAt, cell, room, timer, cellOf, roomOf, putCell, putRoom, put, setTimer}
-use Rattle.meaning.proofs.Lists.{splice-length, splice-same, splice-before, splice-after}
+use Rattle.meaning.specs.Memory.{cellAt, flagsAt, cell, room, timer, cellOf, roomOf, putCell, putRoom, put, setTimer}
+use Rattle.meaning.proofs.Lists.{part-octet, octet-part, splice-length, splice-same, splice-before, splice-after}
 use Rattle.meaning.proofs.Tests.{and-left, and-right, or-cases, below-at}
 
 -- ---- the table's rules
@@ -191,6 +191,59 @@ module _ (m : List ℕ) (k f : ℕ) (v : List ℕ) (hm : length m ≡ memoryLeng
   pub timer-put : timer (put m k f v) ≡ timer m
   unfolding put
   timer-put = timer-putRoom (putCell m k f (length v)) k v half hk hv ∙ timer-putCell m k f (length v) hm hk
+
+-- ---- the flags of a cell are put
+
+module _ (m : List ℕ) (k f : ℕ) (hm : length m ≡ memoryLength) (hk : k < entryCount) where
+  abbrev flagged : List ℕ
+  flagged = splice m (flagsAt k) (f ∷ [])
+
+  fits-flags : flagsAt k + 1 ≤ length m
+  fits-flags = rw hm (omega arith)
+
+  pub flagged-length : length flagged ≡ memoryLength
+  flagged-length = splice-length m (flagsAt k) (f ∷ []) fits-flags ∙ hm
+
+  -- no part that lies apart from them changes
+  part-flagged : (i l : ℕ) → (i + l ≤ flagsAt k) ⊎ (flagsAt k + 1 ≤ i) → part flagged i l ≡ part m i l
+  part-flagged i l (inl h) = splice-before m (flagsAt k) (f ∷ []) fits-flags i l h
+  part-flagged i l (inr h) = splice-after m (flagsAt k) (f ∷ []) fits-flags i l h
+
+  pub octet-flagged : (i : ℕ) → i ≢ flagsAt k → octet flagged i ≡ octet m i
+  octet-flagged i ne =
+      sym (octet-part flagged i) ∙ ap (λ (s : List ℕ). octet s 0) (part-flagged i 1 (apart-from (decLe (flagsAt k + 1) i))) ∙ octet-part m i
+    where
+      apart-from : Dec (flagsAt k + 1 ≤ i) → (i + 1 ≤ flagsAt k) ⊎ (flagsAt k + 1 ≤ i)
+      apart-from (yes h) = inr h
+      apart-from (no h) = inl (omega arith)
+
+  pub flags-flagged : octet (cell flagged k) 2 ≡ f
+  unfolding cell
+  flags-flagged =
+      part-octet flagged (cellAt k) 6 2 (omega arith)
+      ∙ sym (octet-part flagged (flagsAt k))
+      ∙ ap (λ (s : List ℕ). octet s 0) (splice-same m (flagsAt k) (f ∷ []) fits-flags)
+
+  pub cell-octet-flagged : (j : ℕ) → j < 6 → j ≢ 2 → octet (cell flagged k) j ≡ octet (cell m k) j
+  unfolding cell
+  cell-octet-flagged j hj ne =
+      part-octet flagged (cellAt k) 6 j hj ∙ octet-flagged (cellAt k + j) (λ e. ne (omega arith)) ∙ sym (part-octet m (cellAt k) 6 j hj)
+
+  pub cell-flagged-other : (j : ℕ) → j ≢ k → cell flagged j ≡ cell m j
+  unfolding cell
+  cell-flagged-other j ne = part-flagged (cellAt j) 6 (go (decLe (suc j) k))
+    where
+      go : Dec (suc j ≤ k) → (cellAt j + 6 ≤ flagsAt k) ⊎ (flagsAt k + 1 ≤ cellAt j)
+      go (yes h) = inl (omega arith)
+      go (no h) = inr (omega arith)
+
+  pub room-flagged : (j : ℕ) → j < entryCount → room flagged j ≡ room m j
+  unfolding room
+  room-flagged j hj = part-flagged (roomAt j) (rowAt j .most) (inr (omega (arith, room-start j hj)))
+
+  pub timer-flagged : timer flagged ≡ timer m
+  unfolding timer
+  timer-flagged = part-flagged timerAt 2 (inr (omega arith))
 
 -- ---- the timer is put
 

@@ -14,7 +14,7 @@ use Rattle.meaning.specs.Table.{rowAt, rows, entryCount}
 use Rattle.meaning.specs.Memory.{present, pending, setTimer, sound}
 use Rattle.meaning.specs.Operation.{Op}
 use Rattle.meaning.specs.Reply.{Held, Failed, failed, Records, heldOctets, shortOctets, failedOctets, readContents, longOctets, setContents, allNames, element, anyRead, anySet, complete, gathered}
-use Rattle.meaning.specs.Calls.{Outcome, isCommand, opsOf, records, message, done, reports, notification, cleared, buildChecks, build}
+use Rattle.meaning.specs.Calls.{Outcome, isCommand, opsOf, records, message, done, reports, notification, whenSent, turned, buildChecks, build}
 use Rattle.meaning.specs.Capture.{Capture, capturing, noCapture, merged, thenRead, sized, frontName, frontHeld, frontFailed, updateCause, readCause, behindCount, untilEndIn, untilEnd, exactly, namesIn, statusIn, longsIn, resultIn, lengthOctets, Elements, isRead, keeping, elementsOf, ofElement, ofElements, inReply, inNotification, contained, isReply, isNotification, captureChecks, Captured, orNothing, capture}
 use Rattle.meaning.proofs.Lists.{Each, Octets, each-append}
 use Rattle.meaning.proofs.Tests.{first-passed}
@@ -298,5 +298,5 @@ pub build-reads : (m room : List ℕ) → build m room .number ≡ 0
 unfolding build buildChecks
 build-reads m room n =
     let p : firstFailed (buildChecks m (length room)) ≡ 0 = call-passed (buildChecks m (length room)) _ m room n in
-    let w : build m room ≡ done (notification m) (setTimer (cleared entryCount m) 1 0) room = call-done (buildChecks m (length room)) _ m room p in
+    let w : build m room ≡ done (notification m) (turned whenSent entryCount (setTimer m 1 0)) room = call-done (buildChecks m (length room)) _ m room p in
     ap (λ (x : Outcome). capture (x .written)) w ∙ notification-reads m (first-passed 0 _ _ p .0)

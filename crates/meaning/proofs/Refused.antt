@@ -1,4 +1,4 @@
--- Law 2: what a refusal leaves of memory and room (RULES 15.24, 15.25), what an expiry leaves (RULES 15.26), and what stays of the
+-- Law 2: what a refusal leaves of memory and room (RULES 15.24, 15.25), what number 20 leaves (RULES 15.26), and what stays of the
 -- room behind a reply or notification (RULES 2.6).
 use Prim.Native.Nat.{ℕ, suc, _+_, _≤_, _<_}
 use native.Mathlib.Omega.{arith}
@@ -14,7 +14,7 @@ use Rattle.meaning.specs.Octets.{octet}
 use Rattle.meaning.specs.Checks.{Checks, passed, check, firstFailed}
 use Rattle.meaning.specs.Table.{entryCount, timerAt, memoryLength}
 use Rattle.meaning.specs.Memory.{setTimer, expiries, sound, fresh}
-use Rattle.meaning.specs.Calls.{Outcome, done, numberOnly, call, handled, fits, messageChecks, message, localChecks, localValue, notification, cleared, buildChecks, build, expired, expiryChecks, expiry, makeFresh}
+use Rattle.meaning.specs.Calls.{Outcome, done, numberOnly, call, handled, fits, messageChecks, message, localChecks, localValue, notification, whenSent, turned, buildChecks, build, expired, expiryChecks, expiry, makeFresh}
 use Rattle.meaning.proofs.Lists.{octet-part}
 use Rattle.meaning.proofs.Tests.{every-at, first-passed}
 use Rattle.meaning.proofs.Places.{setTimer-length, part-setTimer}
@@ -42,7 +42,7 @@ call-among cs o m room z =
     call-either (λ r. Among (r .number) cs) cs o m room (λ e. rw (z, sym e) (first-among cs)) (λ f e. rw (sym e) (first-among cs))
 
 -- every number of some checks is at most n
-abbrev AtMost : ℕ → Checks → Type 0
+abbrev pub AtMost : ℕ → Checks → Type 0
 AtMost n passed = Unit {0}
 AtMost n (check k b cs) = (k ≤ n) × AtMost n cs
 
@@ -51,7 +51,7 @@ among-most n k passed h e = omega arith
 among-most n k (check i b cs) h (inl e) = omega (arith, h .0)
 among-most n k (check i b cs) h (inr a) = among-most n k cs (h .1) a
 
-first-most : (n : ℕ) (cs : Checks) → AtMost n cs → firstFailed cs ≤ n
+pub first-most : (n : ℕ) (cs : Checks) → AtMost n cs → firstFailed cs ≤ n
 first-most n cs h = among-most n (firstFailed cs) cs h (first-among cs)
 
 pub message-number : (m s room : List ℕ) → message m s room .number ≤ 8
@@ -139,7 +139,7 @@ unfolding expiry
 expiry-refused m a b =
     refusal (expiryChecks m) (expired m) m [] (inr (expired-either (λ o. 12 < o .number) m (λ h. omega arith) (omega arith))) a b
 
--- ---- 20 and 21
+-- ---- 20; what 21 leaves is in Flights
 
 -- nothing written, and only octets 114 and 115 may differ
 pub record OnlyTimer (o : Outcome) (m : List ℕ) : Type 0 where
@@ -147,7 +147,7 @@ pub record OnlyTimer (o : Outcome) (m : List ℕ) : Type 0 where
   pub long : length (o .memory) ≡ length m
   pub others : (i : ℕ) → i ≢ 114 → i ≢ 115 → octet (o .memory) i ≡ octet m i
 
-timer-others : (m : List ℕ) (w n : ℕ) → length m ≡ memoryLength → (i : ℕ) → i ≢ 114 → i ≢ 115 → octet (setTimer m w n) i ≡ octet m i
+pub timer-others : (m : List ℕ) (w n : ℕ) → length m ≡ memoryLength → (i : ℕ) → i ≢ 114 → i ≢ 115 → octet (setTimer m w n) i ≡ octet m i
 timer-others m w n hm i a b =
     sym (octet-part (setTimer m w n) i) ∙ ap (λ (s : List ℕ). octet s 0) (part-setTimer m w n hm i 1 (apart (decLe 116 i))) ∙ octet-part m i
   where
@@ -155,19 +155,16 @@ timer-others m w n hm i a b =
     apart (yes h) = inr h
     apart (no h) = inl (omega arith)
 
-pub expiry-timer : (m : List ℕ) → 12 < expiry m .number → OnlyTimer (expiry m) m
+pub expiry-timer : (m : List ℕ) → expiry m .number ≡ 20 → OnlyTimer (expiry m) m
 unfolding expiry expiryChecks
 expiry-timer m =
-    call-either (λ o. 12 < o .number → OnlyTimer o m) (expiryChecks m) (expired m) m []
-    (λ e h.
-    let s = first-passed 0 _ _ e .0 in
-    expired-either (λ o. OnlyTimer o m) m (λ _. set s 20 1 (expiries m + 1)) (set s 21 0 0))
+    call-either (λ o. o .number ≡ 20 → OnlyTimer o m) (expiryChecks m) (expired m) m []
+    (λ e.
+    let hm = opened m (first-passed 0 _ _ e .0) .long in
+    expired-either (λ o. o .number ≡ 20 → OnlyTimer o m) m
+    (λ _ _. record { written = refl; long = setTimer-length m 1 (expiries m + 1) hm ∙ sym hm; others = timer-others m 1 (expiries m + 1) hm })
+    (λ h. absurd (omega arith)))
     (λ f e h. absurd (omega (arith, e, first-most 8 (expiryChecks m) (omega arith))))
-  where
-    set : sound m ≡ true → (k w n : ℕ) → OnlyTimer (numberOnly k (setTimer m w n) []) m
-    set s k w n =
-        let hm = opened m s .long in
-        record { written = refl; long = setTimer-length m w n hm ∙ sym hm; others = timer-others m w n hm }
 
 -- ---- the room
 
@@ -194,7 +191,7 @@ message-room m s room =
 pub build-room : (m room : List ℕ) → RoomAfter (build m room) room
 unfolding build buildChecks
 build-room m room =
-    call-room (buildChecks m (length room)) (notification m) (setTimer (cleared entryCount m) 1 0) m room
+    call-room (buildChecks m (length room)) (notification m) (turned whenSent entryCount (setTimer m 1 0)) m room
     (λ e.
     let e1 = first-passed 0 _ _ e in
     let e11 = first-passed 10 _ _ (e1 .1) in

@@ -14,16 +14,16 @@ use Rattle.meaning.specs.Octets.{octet, nonempty}
 use Rattle.meaning.specs.Checks.{firstFailed, whenPassed}
 use Rattle.meaning.specs.Table.{Row, nobody, row, rowAt, rows, placeIn, place, listed, byController, byPort, free, entryCount, commit}
 use Rattle.meaning.specs.Block.{permits}
-use Rattle.meaning.specs.Memory.{present, subscribed, pending, body, store, setMarks, setTimer, sound, expiries}
+use Rattle.meaning.specs.Memory.{present, subscribed, pending, inFlight, body, store, setMarks, setTimer, waiting, sound, expiries}
 use Rattle.meaning.specs.Operation.{Op, capabilities, read, set, subscribe, unsubscribe, selectiveRead, selectiveSubscribe, selectiveUnsubscribe, deleteEntry, breakOf}
 use Rattle.meaning.specs.Step.{block, commits, permitted, setChecks, stored, setMemory, setAnswer, subscribeMemory, unsubscribeMemory, step, answer, update, after}
-use Rattle.meaning.specs.Calls.{Outcome, done, isCommand, operations, opsOf, carriedOut, acknowledged, handled, messageChecks, located, message, differs, localMemory, localChecks, localValue, cleared, buildChecks, build, expired, expiryChecks, expiry}
+use Rattle.meaning.specs.Calls.{Outcome, done, isCommand, operations, opsOf, carriedOut, acknowledged, handled, messageChecks, located, message, differs, localMemory, localChecks, localValue, Moment, whenSent, whenAcknowledged, whenGivenUp, turned, buildChecks, build, expired, expiryChecks, expiry}
 use Rattle.meaning.proofs.Tests.{first-passed, all-passing}
 use Rattle.meaning.proofs.Places.{listed-place}
 use Rattle.meaning.proofs.Checked.{call-either, call-memory, set-stores, set-either}
-use Rattle.meaning.proofs.Sound.{Sound, opened, put-present-same, put-present-other, put-body-same, put-body-other, present-setMarks, body-setMarks, present-setTimer, body-setTimer}
-use Rattle.meaning.proofs.Kept.{permits-most, stored-permitted, Settable, settable, step-sound, cleared-sound, Local, local-opened, local-held, commit-not-port, expired-either}
-use Rattle.meaning.proofs.Marks.{cleared-values}
+use Rattle.meaning.proofs.Sound.{Sound, opened, put-present-same, put-present-other, put-body-same, put-body-other, present-setTimer, body-setTimer}
+use Rattle.meaning.proofs.Kept.{permits-most, stored-permitted, Settable, settable, step-sound, Local, local-opened, local-held, commit-not-port, idled, acknowledged-waits, waits-sound, waits-now, expired-either}
+use Rattle.meaning.proofs.Turned.{present-setMarks, body-setMarks, turned-to}
 use Rattle.meaning.proofs.Commit.{Commits, commits-spelt, spelt-commits}
 
 -- ---- the statement
@@ -101,21 +101,21 @@ store-same : (m : List ℕ) (k : ℕ) (v : List ℕ) → Sound m → k < entryCo
 unfolding store
 store-same m k v S hk hv ne =
     record {
-      runs = put-present-other m k true (subscribed m k) (pending m k) v S hk hv commit (omega arith) (λ e. ne (sym e));
-      block = put-body-other m k true (subscribed m k) (pending m k) v S hk hv commit (omega arith) (λ e. ne (sym e));
+      runs = put-present-other m k true (subscribed m k) (pending m k) (inFlight m k) v S hk hv commit (omega arith) (λ e. ne (sym e));
+      block = put-body-other m k true (subscribed m k) (pending m k) (inFlight m k) v S hk hv commit (omega arith) (λ e. ne (sym e));
     }
 
 store-runs : (m v : List ℕ) → Sound m → length v ≤ rowAt commit .most → Runs (store m commit v) v
 unfolding store
 store-runs m v S hv =
     record {
-      runs = put-present-same m commit true (subscribed m commit) (pending m commit) v S (omega arith) hv;
-      block = put-body-same m commit true (subscribed m commit) (pending m commit) v S (omega arith) hv;
+      runs = put-present-same m commit true (subscribed m commit) (pending m commit) (inFlight m commit) v S (omega arith) hv;
+      block = put-body-same m commit true (subscribed m commit) (pending m commit) (inFlight m commit) v S (omega arith) hv;
     }
 
-setMarks-same : (m : List ℕ) (k : ℕ) (s q : Bool) → Sound m → k < entryCount → SameRunning m (setMarks m k s q)
-setMarks-same m k s q S hk =
-    record { runs = present-setMarks m k s q S hk commit (omega arith); block = body-setMarks m k s q S hk commit (omega arith) }
+setMarks-same : (m : List ℕ) (k : ℕ) (s q i : Bool) → Sound m → k < entryCount → SameRunning m (setMarks m k s q i)
+setMarks-same m k s q i S hk =
+    record { runs = present-setMarks m k s q i S hk commit (omega arith); block = body-setMarks m k s q i S hk commit (omega arith) }
 
 timer-same : (m : List ℕ) (w n : ℕ) → Sound m → SameRunning m (setTimer m w n)
 timer-same m w n S =
@@ -166,9 +166,9 @@ step-running m (set n v) s = go (set-running m n v (opened m s))
     go (inl k) = inl k
     go (inr k) = inr (v, ap (λ (i : ℕ). set i v) (k .0), k .1, k .2)
 step-running m (subscribe n) s =
-    inl (marks-same m n _ (λ e. setMarks-same m (place n) true (pending m (place n)) (opened m s) (listed-place n e)))
+    inl (marks-same m n _ (λ e. setMarks-same m (place n) true (pending m (place n)) (inFlight m (place n)) (opened m s) (listed-place n e)))
 step-running m (unsubscribe n) s =
-    inl (marks-same m n _ (λ e. setMarks-same m (place n) false false (opened m s) (listed-place n e)))
+    inl (marks-same m n _ (λ e. setMarks-same m (place n) false false false (opened m s) (listed-place n e)))
 step-running m (selectiveRead n v) s = inl (same-running m)
 step-running m (selectiveSubscribe n v) s = inl (same-running m)
 step-running m (selectiveUnsubscribe n v) s = inl (same-running m)
@@ -210,6 +210,17 @@ running-after m (o ∷ os) s = run-one m o os (step-running m o s) (running-afte
 
 -- ---- the calls
 
+-- marks turned, and the timer
+turned-same : (t : Moment) (m : List ℕ) → sound m ≡ true → waiting m ≡ true → SameRunning m (turned t entryCount m)
+turned-same t m s w =
+    let T = turned-to t entryCount m (omega arith) s w in
+    record { runs = T .presences commit (omega arith); block = T .values commit (omega arith) }
+
+idled-same : (t : Moment) (m : List ℕ) → sound m ≡ true → waiting m ≡ true → SameRunning m (idled t m)
+idled-same t m s w =
+    let c = turned t entryCount m in
+    same-then (turned-same t m s w) (timer-same c 0 0 (opened c (turned-to t entryCount m (omega arith) s w .isSound)))
+
 -- a message: nothing, unless it is a command that is carried out: type 01, number 0
 pub record CommandRuns (m s : List ℕ) (o : Outcome) : Type 0 where
   pub type : octet s 0 ≡ 1
@@ -221,14 +232,14 @@ pub message-running : (m s room : List ℕ) → sound m ≡ true → SameRunning
 unfolding message handled carriedOut acknowledged
 message-running m s room h =
     call-either (λ o. SameRunning m (o .memory) ⊎ CommandRuns m s (located (breakOf (operations s)) o)) (messageChecks m s (length room)) _ m room
-    (λ e. go (isCommand s) refl)
+    (λ e. go e (isCommand s) refl)
     (λ n e. inl (same-running m))
   where
-    go : (b : Bool) → isCommand s ≡ b
+    go : firstFailed (messageChecks m s (length room)) ≡ 0 → (b : Bool) → isCommand s ≡ b
         → let d = cond b (carriedOut m (opsOf s)) (acknowledged m) in
         SameRunning m (d .memory) ⊎ CommandRuns m s (done (d .reply) (d .memory) room)
-    go true c = inr (record { type = unfold isCommand in eqb-true _ _ c; number = refl; memory = refl; running = running-after m (opsOf s) h })
-    go false c = inl (timer-same m 0 0 (opened m h))
+    go e true c = inr (record { type = unfold isCommand in eqb-true _ _ c; number = refl; memory = refl; running = running-after m (opsOf s) h })
+    go e false c = inl (idled-same whenAcknowledged m h (acknowledged-waits m s room e c))
 
 local-same : (m : List ℕ) (n : ℕ) (v : List ℕ) → Sound m → Local n v → SameRunning m (localMemory m (place n) v)
 unfolding localMemory
@@ -239,8 +250,8 @@ local-same m n v S l =
     let ne : commit ≢ k = λ e. false≢true (sym commit-not-port ∙ ap (λ (j : ℕ). byPort (rowAt j .owner)) e ∙ l .byThePort) in
     let q = pending m k || (subscribed m k && differs m k v) in
     record {
-      runs = put-present-other m k (nonempty v) (subscribed m k) q v S hk hv commit (omega arith) ne;
-      block = put-body-other m k (nonempty v) (subscribed m k) q v S hk hv commit (omega arith) ne;
+      runs = put-present-other m k (nonempty v) (subscribed m k) q (inFlight m k) v S hk hv commit (omega arith) ne;
+      block = put-body-other m k (nonempty v) (subscribed m k) q (inFlight m k) v S hk hv commit (omega arith) ne;
     }
 
 pub localValue-running : (m : List ℕ) (n : ℕ) (v : List ℕ) → sound m ≡ true → SameRunning m (localValue m n v .memory)
@@ -249,20 +260,16 @@ localValue-running m n v s =
     call-memory (SameRunning m) (localChecks m n v) _ m [] (same-running m)
     (λ e. local-same m n v (opened m s) (local-opened n v (first-passed 11 _ _ (first-passed 0 _ _ e .1) .0)))
 
-cleared-same : (m : List ℕ) → sound m ≡ true → SameRunning m (cleared entryCount m)
-cleared-same m s =
-    let h = cleared-values entryCount m (omega arith) s commit (omega arith) in
-    record { runs = h .0; block = h .1 }
-
 pub build-running : (m room : List ℕ) → sound m ≡ true → SameRunning m (build m room .memory)
 unfolding build
 build-running m room s =
-    let c = cleared entryCount m in
     call-memory (SameRunning m) (buildChecks m (length room)) _ m room (same-running m)
-    (λ e. same-then (cleared-same m s) (timer-same c 1 0 (opened c (cleared-sound entryCount m (omega arith) s))))
+    (λ e. same-then (timer-same m 1 0 (opened m s)) (turned-same whenSent (setTimer m 1 0) (waits-sound m 0 s (omega arith)) (waits-now m 0 (opened m s))))
 
 pub expiry-running : (m : List ℕ) → sound m ≡ true → SameRunning m (expiry m .memory)
-unfolding expiry
+unfolding expiry expiryChecks
 expiry-running m s =
     call-memory (SameRunning m) (expiryChecks m) (expired m) m [] (same-running m)
-    (λ e. expired-either (λ o. SameRunning m (o .memory)) m (λ h. timer-same m 1 (expiries m + 1) (opened m s)) (timer-same m 0 0 (opened m s)))
+    (λ e.
+    expired-either (λ o. SameRunning m (o .memory)) m (λ h. timer-same m 1 (expiries m + 1) (opened m s))
+    (idled-same whenGivenUp m s (first-passed 7 _ _ (first-passed 0 _ _ e .1) .0)))

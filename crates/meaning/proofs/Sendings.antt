@@ -10,15 +10,16 @@ use lib.ListN.{length}
 use lib.Dec.{eqb}
 use Rattle.meaning.specs.Octets.{nonempty, zeros}
 use Rattle.meaning.specs.Table.{rowAt, place, listed}
-use Rattle.meaning.specs.Memory.{timer, waiting, expiries, cell, size, present, subscribed, pending, flags, store, setMarks, sound, fresh}
+use Rattle.meaning.specs.Memory.{timer, waiting, expiries, cell, size, present, subscribed, pending, inFlight, flags, store, setMarks, sound, fresh}
 use Rattle.meaning.specs.Operation.{Op, capabilities, read, set, subscribe, unsubscribe, selectiveRead, selectiveSubscribe, selectiveUnsubscribe, deleteEntry}
 use Rattle.meaning.specs.Step.{stored, setMemory, subscribeMemory, unsubscribeMemory, step, after}
 use Rattle.meaning.specs.Calls.{Outcome, numberOnly, isCommand, isAcknowledgement, carriedOut, opsOf, messageChecks, message, differs, localMemory, localChecks, localValue, buildChecks, build, expiry, makeFresh}
 use Rattle.meaning.proofs.All.{all}
 use Rattle.meaning.proofs.Tests.{and-left, and-right, denied, first-passed}
-use Rattle.meaning.proofs.Places.{listed-place, timer-putCell, timer-put}
+use Rattle.meaning.proofs.Places.{listed-place, timer-put}
 use Rattle.meaning.proofs.Checked.{call-memory, call-passed, set-either}
 use Rattle.meaning.proofs.Sound.{opened}
+use Rattle.meaning.proofs.Turned.{timer-setMarks}
 use Rattle.meaning.proofs.Kept.{permits-most, stored-permitted, settable, step-sound, Local, local-opened, local-held, message-sound, localValue-sound, build-sound, expiry-sound}
 use Rattle.meaning.proofs.Accepted.{message-passed, handled-command}
 use Rattle.meaning.proofs.Numbers.{build-10, build-11}
@@ -111,16 +112,15 @@ set-timer m n v s =
     let t = settable m n v e in
     let k = place n in
     let w = stored m k v in
-    timer-put m k (flags true (subscribed m k) (pending m k)) w (opened m s .long) (listed-place n (t .isListed))
+    timer-put m k (flags true (subscribed m k) (pending m k) (inFlight m k)) w (opened m s .long) (listed-place n (t .isListed))
     (permits-most (rowAt k) w (stored-permitted m k v (t .allowed) .0)))
     refl
 
-setMarks-timer : (m : List ℕ) (n : ℕ) (s q : Bool) → sound m ≡ true → timer (cond (listed n) (setMarks m (place n) s q) m) ≡ timer m
-unfolding setMarks
-setMarks-timer m n s q h = go (listed n) refl
+setMarks-timer : (m : List ℕ) (n : ℕ) (s q i : Bool) → sound m ≡ true → timer (cond (listed n) (setMarks m (place n) s q i) m) ≡ timer m
+setMarks-timer m n s q i h = go (listed n) refl
   where
-    go : (b : Bool) → listed n ≡ b → timer (cond b (setMarks m (place n) s q) m) ≡ timer m
-    go true e = timer-putCell m (place n) (flags (present m (place n)) s q) (size (cell m (place n))) (opened m h .long) (listed-place n e)
+    go : (b : Bool) → listed n ≡ b → timer (cond b (setMarks m (place n) s q i) m) ≡ timer m
+    go true e = timer-setMarks m (place n) s q i (opened m h) (listed-place n e)
     go false e = refl
 
 pub step-timer : (m : List ℕ) (o : Op) → sound m ≡ true → timer (step m o) ≡ timer m
@@ -128,8 +128,8 @@ unfolding step subscribeMemory unsubscribeMemory
 step-timer m capabilities s = refl
 step-timer m (read n) s = refl
 step-timer m (set n v) s = set-timer m n v s
-step-timer m (subscribe n) s = setMarks-timer m n true (pending m (place n)) s
-step-timer m (unsubscribe n) s = setMarks-timer m n false false s
+step-timer m (subscribe n) s = setMarks-timer m n true (pending m (place n)) (inFlight m (place n)) s
+step-timer m (unsubscribe n) s = setMarks-timer m n false false false s
 step-timer m (selectiveRead n v) s = refl
 step-timer m (selectiveSubscribe n v) s = refl
 step-timer m (selectiveUnsubscribe n v) s = refl
@@ -158,7 +158,7 @@ local-timer : (m : List ℕ) (n : ℕ) (v : List ℕ) → sound m ≡ true → L
 unfolding localMemory
 local-timer m n v s l =
     let k = place n in
-    timer-put m k (flags (nonempty v) (subscribed m k) (pending m k || (subscribed m k && differs m k v))) v (opened m s .long)
+    timer-put m k (flags (nonempty v) (subscribed m k) (pending m k || (subscribed m k && differs m k v)) (inFlight m k)) v (opened m s .long)
     (listed-place n (l .isListed))
     (local-held (rowAt k) v (l .allowed) .1)
 
@@ -301,10 +301,10 @@ sent-five-times m room cs e u n =
 
 -- such calls there are: from fresh memory Tick granularity is subscribed and set; the notification is built, and among the expiries
 -- come another value, a build that finds it waiting and a read
-pub before : List Call
+unfoldable pub before : List Call
 before = takeMessage (1 ∷ 0 ∷ 3 ∷ 4 ∷ 0 ∷ 8 ∷ []) (zeros 64) ∷ takeValue 8 (0 ∷ 0 ∷ 0 ∷ 1 ∷ []) ∷ []
 
-pub between : List Call
+unfoldable pub between : List Call
 between =
     takeExpiry
     ∷ takeValue 8 []

@@ -1,4 +1,4 @@
--- Sound memory clause by clause (RULES 5.1 to 5.14), octet by octet: the test passes exactly if each clause holds.
+-- Sound memory clause by clause (RULES 5.1 to 5.14, 5.17), octet by octet: the test passes exactly if each clause holds.
 use Prim.Native.Nat.{ℕ, suc, _+_, _-_, _*_, _≤_, _<_}
 use native.Mathlib.Omega.{arith}
 use mathlib.Core.Path.{_≡_, refl, sym, ap, _∙_}
@@ -12,7 +12,7 @@ use borrow.Author.Tests.{leb-true, le-leb, ltb-true, lt-ltb, eqb-true, eq-eqb}
 use Rattle.meaning.specs.Octets.{octet, at16, part, blank, every}
 use Rattle.meaning.specs.Table.{rowAt, roomAt, byPort, entryCount, memoryLength, timerAt, gateEnabled, adminBaseTime, adminControlListLength, adminControlList, adminCycleTime, supportedListMax, commit}
 use Rattle.meaning.specs.Block.{keeps, permits}
-use Rattle.meaning.specs.Memory.{cellAt, cell, room, body, size, timer, isPresent, isSubscribed, isPending, present, subscribed, pending, fourPresent, timerSound, sound}
+use Rattle.meaning.specs.Memory.{cellAt, cell, room, body, size, timer, waiting, isPresent, isSubscribed, isPending, isInFlight, present, subscribed, pending, inFlight, fourPresent, timerSound, sound}
 use Rattle.meaning.proofs.Lists.{part-octet, length-part}
 use Rattle.meaning.proofs.Tests.{and-left, and-right, and-both, every-at, implied, implies-of, blank-octet}
 use Rattle.meaning.proofs.Places.{room-end}
@@ -27,8 +27,9 @@ lengthAt m k = octet m (6 * k + 4) * 256 + octet m (6 * k + 5)
 pub record EntrySpelt (m : List ℕ) (k : ℕ) : Type 0 where
   pub name : octet m (6 * k) * 256 + octet m (6 * k + 1) ≡ rowAt k .name
   pub zeroOctet : octet m (6 * k + 3) ≡ 0
-  pub noOtherFlag : octet m (6 * k + 2) < 8
+  pub noOtherFlag : octet m (6 * k + 2) < 16
   pub pendingOnly : pending m k ≡ true → (subscribed m k ≡ true) × (byPort (rowAt k .owner) ≡ true)
+  pub inFlightOnly : inFlight m k ≡ true → (subscribed m k ≡ true) × (byPort (rowAt k .owner) ≡ true) × (octet m 114 ≡ 1)
   pub absentEmpty : present m k ≡ false → lengthAt m k ≡ 0
   pub presentLength : present m k ≡ true → (rowAt k .least ≤ lengthAt m k) × (lengthAt m k ≤ rowAt k .most)
   pub presentRule : present m k ≡ true → keeps (rowAt k .rule) (body m k) ≡ true
@@ -72,6 +73,12 @@ timer-octet : (m : List ℕ) (j : ℕ) → j < 2 → octet (timer m) j ≡ octet
 unfolding timer
 timer-octet m j h = part-octet m timerAt 2 j h
 
+timer-first : (m : List ℕ) → octet (timer m) 0 ≡ octet m 114
+timer-first m = timer-octet m 0 (omega arith)
+
+timer-second : (m : List ℕ) → octet (timer m) 1 ≡ octet m 115
+timer-second m = timer-octet m 1 (omega arith)
+
 blank-of : (s : List ℕ) → ((i : ℕ) → i < length s → octet s i ≡ 0) → blank s ≡ true
 unfolding blank
 blank-of [] h = refl
@@ -84,16 +91,20 @@ module _ (m : List ℕ) (k : ℕ) (hm : length m ≡ memoryLength) (hk : k < ent
   unfolding body
   body-long h = length-take-le (size (cell m k)) (room m k) (rw (room-length m k hm hk) h) ∙ size-spelt m k
 
-  entry-spelt : Entry (rowAt k) (cell m k) (room m k) → EntrySpelt m k
-  unfolding present subscribed pending permits body
+  entry-spelt : Entry (waiting m) (rowAt k) (cell m k) (room m k) → EntrySpelt m k
+  unfolding present subscribed pending inFlight waiting permits body
   entry-spelt e =
       let most : size (cell m k) ≤ rowAt k .most = e .inRoom in
       let held : isPresent (cell m k) ≡ true → permits (rowAt k) (body m k) ≡ true = λ p. rw p at (e .held) in
       record {
         name = sym (name-spelt m k) ∙ e .name;
         zeroOctet = sym (cell-octet m k 3 (omega arith)) ∙ e .zeroOctet;
-        noOtherFlag = omega (arith, ltb-true (octet (cell m k) 2) 8 (e .flagged), cell-octet m k 2 (omega arith));
+        noOtherFlag = omega (arith, ltb-true (octet (cell m k) 2) 16 (e .flagged), cell-octet m k 2 (omega arith));
         pendingOnly = λ p. let b = implied (isPending (cell m k)) _ (e .marks) p in (and-left _ _ b, and-right (isSubscribed (cell m k)) _ b);
+        inFlightOnly = λ p.
+            let b = implied (isInFlight (cell m k)) _ (e .flight) p in
+            let o = and-right (isSubscribed (cell m k)) _ b in
+            (and-left _ _ b, and-left _ _ o, sym (timer-first m) ∙ eqb-true _ _ (and-right (byPort (rowAt k .owner)) _ o));
         absentEmpty = λ p. sym (size-spelt m k) ∙ eqb-true _ _ (rw p at (e .held));
         presentLength = λ p.
             let l = body-long most in
@@ -125,8 +136,8 @@ module _ (m : List ℕ) (k : ℕ) (hm : length m ≡ memoryLength) (hk : k < ent
           simp (le-leb (rowAt k .least) (length (body m k)) (rw l (h .0)), le-leb (length (body m k)) (rowAt k .most) (rw l (h .1)), e .presentRule p)
       go false p = eq-eqb _ _ (size-spelt m k ∙ e .absentEmpty p)
 
-  spelt-entry : EntrySpelt m k → Entry (rowAt k) (cell m k) (room m k)
-  unfolding present subscribed pending body
+  spelt-entry : EntrySpelt m k → Entry (waiting m) (rowAt k) (cell m k) (room m k)
+  unfolding present subscribed pending inFlight waiting body
   spelt-entry e =
       let n = size (cell m k) in
       let z : n ≡ lengthAt m k = size-spelt m k in
@@ -134,8 +145,9 @@ module _ (m : List ℕ) (k : ℕ) (hm : length m ≡ memoryLength) (hk : k < ent
       record {
         name = name-spelt m k ∙ e .name;
         zeroOctet = cell-octet m k 3 (omega arith) ∙ e .zeroOctet;
-        flagged = lt-ltb (octet (cell m k) 2) 8 (omega (arith, e .noOtherFlag, cell-octet m k 2 (omega arith)));
+        flagged = lt-ltb (octet (cell m k) 2) 16 (omega (arith, e .noOtherFlag, cell-octet m k 2 (omega arith)));
         marks = implies-of _ _ (λ p. and-both (e .pendingOnly p .0) (e .pendingOnly p .1));
+        flight = implies-of _ _ (λ p. let b = e .inFlightOnly p in and-both (b .0) (and-both (b .1) (eq-eqb _ _ (timer-first m ∙ b .2))));
         inRoom = most-spelt e;
         held = held-spelt e;
         tail =
@@ -146,12 +158,6 @@ module _ (m : List ℕ) (k : ℕ) (hm : length m ≡ memoryLength) (hk : k < ent
       }
 
 -- ---- the timer
-
-timer-first : (m : List ℕ) → octet (timer m) 0 ≡ octet m 114
-timer-first m = timer-octet m 0 (omega arith)
-
-timer-second : (m : List ℕ) → octet (timer m) 1 ≡ octet m 115
-timer-second m = timer-octet m 1 (omega arith)
 
 abbrev Timer : List ℕ → Type 0
 Timer m = ((octet m 114 ≡ 1) × (octet m 115 ≤ 4)) ⊎ ((octet m 114 ≡ 0) × (octet m 115 ≡ 0))
@@ -194,7 +200,7 @@ spelt-sound m s =
     closed m
     record {
       long = s .long;
-      entries = λ k hk. entry-closed (rowAt k) (cell m k) (room m k) (spelt-entry m k (s .long) hk (s .entries k hk));
+      entries = λ k hk. entry-closed (waiting m) (rowAt k) (cell m k) (room m k) (spelt-entry m k (s .long) hk (s .entries k hk));
       gate = s .gatePresent;
       listMax = s .listMaxPresent;
       runs = λ p. let f = s .runsOverFour p in simp (f .0, f .1, f .2, f .3);

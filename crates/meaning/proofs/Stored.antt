@@ -9,7 +9,7 @@ use Rattle.meaning.specs.Octets.{part, nonempty}
 use Rattle.meaning.specs.Checks.{firstFailed, whenPassed}
 use Rattle.meaning.specs.Table.{rowAt, roomAt, place, listed, entryCount, commit}
 use Rattle.meaning.specs.Block.{sums}
-use Rattle.meaning.specs.Memory.{present, subscribed, pending, body, store, sound}
+use Rattle.meaning.specs.Memory.{present, subscribed, pending, inFlight, body, store, sound}
 use Rattle.meaning.specs.Operation.{capabilities, read, set}
 use Rattle.meaning.specs.Step.{value, shown, readChecks, readAnswer, setChecks, stored, step, answer}
 use Rattle.meaning.specs.Calls.{differs, localMemory}
@@ -38,9 +38,9 @@ set-leaves m n v s e =
     let hv = permits-most (rowAt k) w (stored-permitted m k v (t .allowed) .0) in
     rw (set-stores m n v e)
     record {
-      presence = put-present-same m k true (subscribed m k) (pending m k) w S hk hv;
-      value = put-body-same m k true (subscribed m k) (pending m k) w S hk hv;
-      others = λ j hj ne. (put-present-other m k true (subscribed m k) (pending m k) w S hk hv j hj ne, put-body-other m k true (subscribed m k) (pending m k) w S hk hv j hj ne);
+      presence = put-present-same m k true (subscribed m k) (pending m k) (inFlight m k) w S hk hv;
+      value = put-body-same m k true (subscribed m k) (pending m k) (inFlight m k) w S hk hv;
+      others = λ j hj ne. (put-present-other m k true (subscribed m k) (pending m k) (inFlight m k) w S hk hv j hj ne, put-body-other m k true (subscribed m k) (pending m k) (inFlight m k) w S hk hv j hj ne);
     }
 
 pub stored-value : (m : List ℕ) (k : ℕ) (v : List ℕ) → k ≢ commit → stored m k v ≡ v
@@ -56,9 +56,9 @@ local-leaves m n v s l =
     let hv = local-held (rowAt k) v (l .allowed) .1 in
     let q = pending m k || (subscribed m k && differs m k v) in
     record {
-      presence = put-present-same m k (nonempty v) (subscribed m k) q v S hk hv;
-      value = put-body-same m k (nonempty v) (subscribed m k) q v S hk hv;
-      others = λ j hj ne. (put-present-other m k (nonempty v) (subscribed m k) q v S hk hv j hj ne, put-body-other m k (nonempty v) (subscribed m k) q v S hk hv j hj ne);
+      presence = put-present-same m k (nonempty v) (subscribed m k) q (inFlight m k) v S hk hv;
+      value = put-body-same m k (nonempty v) (subscribed m k) q (inFlight m k) v S hk hv;
+      others = λ j hj ne. (put-present-other m k (nonempty v) (subscribed m k) q (inFlight m k) v S hk hv j hj ne, put-body-other m k (nonempty v) (subscribed m k) q (inFlight m k) v S hk hv j hj ne);
     }
 
 -- what was set is read back

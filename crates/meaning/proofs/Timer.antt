@@ -1,4 +1,4 @@
--- The timer: building starts waiting and clears the marks that it reports, an acknowledgement ends waiting, expiries are counted.
+-- The timer: building starts waiting and puts what it reports in flight, an acknowledgement and the fifth expiry end waiting and leave nothing in flight, expiries are counted.
 use Prim.Native.Nat.{ℕ, zero, suc, _+_, _≤_, _<_}
 use native.Mathlib.Omega.{arith}
 use native.Mathlib.Decide.{ℕ-discrete}
@@ -10,14 +10,14 @@ use borrow.Author.Tests.{le-leb}
 use Rattle.meaning.specs.Octets.{every, implies, nonempty}
 use Rattle.meaning.specs.Checks.{firstFailed, whenPassed}
 use Rattle.meaning.specs.Table.{entryCount}
-use Rattle.meaning.specs.Memory.{timer, waiting, expiries, setTimer, present, body, subscribed, pending, sound}
-use Rattle.meaning.specs.Calls.{done, numberOnly, call, isCommand, isAcknowledgement, handled, acknowledged, fits, messageChecks, message, reports, notification, cleared, buildChecks, build, expiryChecks, expiry}
+use Rattle.meaning.specs.Memory.{timer, waiting, expiries, setTimer, present, body, subscribed, pending, inFlight, sound}
+use Rattle.meaning.specs.Calls.{done, numberOnly, call, isCommand, isAcknowledgement, handled, acknowledged, fits, messageChecks, message, reports, notification, Moment, whenSent, whenAcknowledged, whenGivenUp, pendingAfter, inFlightAfter, turned, buildChecks, build, expiryChecks, expiry}
 use Rattle.meaning.proofs.Tests.{first-passed}
 use Rattle.meaning.proofs.Places.{timer-setTimer, cell-setTimer}
 use Rattle.meaning.proofs.Checked.{call-done, call-passed}
 use Rattle.meaning.proofs.Sound.{Sound, opened, present-setTimer, body-setTimer}
-use Rattle.meaning.proofs.Kept.{cleared-sound, expired-again, expired-last}
-use Rattle.meaning.proofs.Marks.{setMarks-marks, setMarks-marks-other, cleared-values}
+use Rattle.meaning.proofs.Kept.{idled, idled-sound, none-acknowledged, none-given-up, waits-sound, waits-now, expired-again, expired-last}
+use Rattle.meaning.proofs.Turned.{SameMarks, cell-marks, turned-to}
 
 -- what the timer says
 pub record Timer (m : List ℕ) (w : Bool) (n : ℕ) : Type 0 where
@@ -28,19 +28,22 @@ timer-waits : (m : List ℕ) (n : ℕ) → Sound m → Timer (setTimer m 1 n) tr
 unfolding waiting expiries
 timer-waits m n S = record { waits = rw (timer-setTimer m 1 n (S .long)); count = rw (timer-setTimer m 1 n (S .long)) }
 
-timer-idles : (m : List ℕ) → Sound m → Timer (setTimer m 0 0) false 0
+idled-timer : (t : Moment) (m : List ℕ) → sound m ≡ true → waiting m ≡ true → Timer (idled t m) false 0
 unfolding waiting expiries
-timer-idles m S = record { waits = rw (timer-setTimer m 0 0 (S .long)); count = rw (timer-setTimer m 0 0 (S .long)) }
+idled-timer t m s w =
+    let c = turned t entryCount m in
+    let e = timer-setTimer c 0 0 (opened c (turned-to t entryCount m (omega arith) s w .isSound) .long) in
+    record { waits = rw e; count = rw e }
 
 -- ---- an acknowledgement while waiting (RULES 14.11)
 
 pub acknowledged-idle : (m room : List ℕ) → sound m ≡ true → waiting m ≡ true → 1 ≤ length room
-    → message m (4 ∷ []) room ≡ done (5 ∷ []) (setTimer m 0 0) room
+    → message m (4 ∷ []) room ≡ done (5 ∷ []) (idled whenAcknowledged m) room
 unfolding message call whenPassed messageChecks firstFailed handled acknowledged isCommand isAcknowledgement implies fits every
 acknowledged-idle m room s w h = simp (s, w, le-leb 1 (length room) h)
 
 pub acknowledged-timer : (m room : List ℕ) → sound m ≡ true → waiting m ≡ true → 1 ≤ length room → Timer (message m (4 ∷ []) room .memory) false 0
-acknowledged-timer m room s w h = rw (acknowledged-idle m room s w h) (timer-idles m (opened m s))
+acknowledged-timer m room s w h = rw (acknowledged-idle m room s w h) (idled-timer whenAcknowledged m s w)
 
 -- ---- expiries (RULES 14.8, 14.9)
 
@@ -48,7 +51,7 @@ pub expiry-again : (m : List ℕ) → sound m ≡ true → waiting m ≡ true �
 unfolding expiry call whenPassed expiryChecks firstFailed
 expiry-again m s w h = simp (s, w) (expired-again m h)
 
-pub expiry-given-up : (m : List ℕ) → sound m ≡ true → waiting m ≡ true → 4 ≤ expiries m → expiry m ≡ numberOnly 21 (setTimer m 0 0) []
+pub expiry-given-up : (m : List ℕ) → sound m ≡ true → waiting m ≡ true → 4 ≤ expiries m → expiry m ≡ numberOnly 21 (idled whenGivenUp m) []
 unfolding expiry call whenPassed expiryChecks firstFailed
 expiry-given-up m s w h = simp (s, w) (expired-last m h)
 
@@ -56,56 +59,39 @@ pub again-timer : (m : List ℕ) → sound m ≡ true → waiting m ≡ true →
 again-timer m s w h = rw (expiry-again m s w h) (timer-waits m (expiries m + 1) (opened m s))
 
 pub given-up-timer : (m : List ℕ) → sound m ≡ true → waiting m ≡ true → 4 ≤ expiries m → Timer (expiry m .memory) false 0
-given-up-timer m s w h = rw (expiry-given-up m s w h) (timer-idles m (opened m s))
+given-up-timer m s w h = rw (expiry-given-up m s w h) (idled-timer whenGivenUp m s w)
 
 -- ---- building (RULES 14.6, 14.7)
 
--- marks cleared below k, those from k on as they were; no subscription changes
-cleared-marks : (k : ℕ) (m : List ℕ) → k ≤ entryCount → sound m ≡ true → (j : ℕ)
-    → (subscribed (cleared k m) j ≡ subscribed m j) × (j < k → pending (cleared k m) j ≡ false)
-unfolding cleared
-cleared-marks zero m h s j = (refl, λ l. absurd (omega arith))
-cleared-marks (suc k) m h s j = go (ℕ-discrete j k) (cleared-marks k m (omega arith) s j)
-  where
-    c : List ℕ
-    c = cleared k m
-
-    S : Sound c
-    S = opened c (cleared-sound k m (omega arith) s)
-
-    go : Dec (j ≡ k) → (subscribed c j ≡ subscribed m j) × (j < k → pending c j ≡ false)
-        → (subscribed (cleared (suc k) m) j ≡ subscribed m j) × (j < suc k → pending (cleared (suc k) m) j ≡ false)
-    go (yes i) ih =
-        let t = setMarks-marks c k (subscribed c k) false S (omega arith) in
-        (ap (subscribed (cleared (suc k) m)) i ∙ t .subscription ∙ ap (subscribed c) (sym i) ∙ ih .0, λ l. ap (pending (cleared (suc k) m)) i ∙ t .pendency)
-    go (no ne) ih =
-        let t = setMarks-marks-other c k (subscribed c k) false S (omega arith) j ne in
-        (t .subscription ∙ ih .0, λ l. t .pendency ∙ ih .1 (omega arith))
-
 pub build-does : (m room : List ℕ) → sound m ≡ true → 1600 ≤ length room → waiting m ≡ false → nonempty (reports m entryCount) ≡ true
-    → build m room ≡ done (notification m) (setTimer (cleared entryCount m) 1 0) room
+    → build m room ≡ done (notification m) (turned whenSent entryCount (setTimer m 1 0)) room
 unfolding build call whenPassed buildChecks firstFailed
 build-does m room s h w n = simp (s, le-leb 1600 (length room) h, w, n)
 
--- what a notification that was built leaves: waiting, no expiry yet, nothing pending, every subscription, presence and value
+-- what a notification that was built leaves: waiting, no expiry yet, in flight what was pending and nothing pending, every subscription, presence and value
 pub record Built (m m′ : List ℕ) : Type 0 where
   pub timer : Timer m′ true 0
   pub nothingPending : (j : ℕ) → j < entryCount → pending m′ j ≡ false
+  pub nowInFlight : (j : ℕ) → j < entryCount → inFlight m′ j ≡ pending m j
   pub subscriptions : (j : ℕ) → j < entryCount → subscribed m′ j ≡ subscribed m j
   pub presences : (j : ℕ) → j < entryCount → present m′ j ≡ present m j
   pub values : (j : ℕ) → j < entryCount → body m′ j ≡ body m j
 
-built : (m : List ℕ) → sound m ≡ true → Built m (setTimer (cleared entryCount m) 1 0)
-unfolding pending subscribed
+built : (m : List ℕ) → sound m ≡ true → Built m (turned whenSent entryCount (setTimer m 1 0))
+unfolding waiting expiries pendingAfter inFlightAfter
 built m s =
-    let c = cleared entryCount m in
-    let S = opened c (cleared-sound entryCount m (omega arith) s) in
+    let w = setTimer m 1 0 in
+    let S = opened m s in
+    let T = turned-to whenSent entryCount w (omega arith) (waits-sound m 0 s (omega arith)) (waits-now m 0 S) in
+    let e = T .sameTimer ∙ timer-setTimer m 1 0 (S .long) in
+    let f : (j : ℕ) → j < entryCount → SameMarks m w j = λ j hj. cell-marks m w j (cell-setTimer m 1 0 (S .long) j hj) in
     record {
-      timer = timer-waits c 0 S;
-      nothingPending = λ j hj. rw (cell-setTimer c 1 0 (S .long) j hj) (cleared-marks entryCount m (omega arith) s j .1 hj);
-      subscriptions = λ j hj. rw (cell-setTimer c 1 0 (S .long) j hj) (cleared-marks entryCount m (omega arith) s j .0);
-      presences = λ j hj. present-setTimer c 1 0 S j hj ∙ cleared-values entryCount m (omega arith) s j hj .0;
-      values = λ j hj. body-setTimer c 1 0 S j hj ∙ cleared-values entryCount m (omega arith) s j hj .1;
+      timer = record { waits = rw e; count = rw e };
+      nothingPending = λ j hj. T .marks j hj .pendency;
+      nowInFlight = λ j hj. T .marks j hj .flight ∙ f j hj .pendency;
+      subscriptions = λ j hj. T .marks j hj .subscription ∙ f j hj .subscription;
+      presences = λ j hj. T .presences j hj ∙ present-setTimer m 1 0 S j hj;
+      values = λ j hj. T .values j hj ∙ body-setTimer m 1 0 S j hj;
     }
 
 pub build-leaves : (m room : List ℕ) → build m room .number ≡ 0 → Built m (build m room .memory)

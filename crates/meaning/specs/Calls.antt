@@ -9,7 +9,7 @@ use Rattle.meaning.specs.Checks.{Checks, passed, check, firstFailed, whe
 use Rattle.meaning.specs.Table.{rowAt, place, listed, byPort, entryCount, memoryLength}
 use Rattle.meaning.specs.Wire.{typeCommand, typeNotify, typeNotifyAck, typeNotifyComplete, causeUnavailable, messageMost, replyMost, notificationRoom, expiriesMost}
 use Rattle.meaning.specs.Block.{permits}
-use Rattle.meaning.specs.Memory.{present, subscribed, pending, body, flags, put, setMarks, setTimer, waiting, expiries, sound, fresh}
+use Rattle.meaning.specs.Memory.{present, subscribed, pending, inFlight, body, flags, put, setMarks, setTimer, waiting, expiries, sound, fresh}
 use Rattle.meaning.specs.Operation.{Op, parse, isSome, orNone, breakOf}
 use Rattle.meaning.specs.Step.{Answer, value, readError, after, answers}
 use Rattle.meaning.specs.Reply.{Records, gathered, complete, countsFit, readContents}
@@ -34,6 +34,29 @@ numberOnly n m room = record { number = n; position = 0; written = []; memory = 
 -- a call: where a check fails its number, and no lent octet changes (RULES 15.24, 15.25)
 unfoldable pub call : Checks → Outcome → List ℕ → List ℕ → Outcome
 call cs o m room = whenPassed (firstFailed cs) o (λ n. numberOnly n m room)
+
+-- ---- what becomes of the marks of a notification: it is sent, acknowledged, or given up (RULES 14.6, 14.11, 14.10)
+
+pub data Moment : Type 0 where
+  whenSent whenAcknowledged whenGivenUp : Moment
+
+-- the marks pending and in flight of an entry, from what they were
+unfoldable pub pendingAfter : Moment → Bool → Bool → Bool
+pendingAfter whenSent q i = false
+pendingAfter whenAcknowledged q i = q
+pendingAfter whenGivenUp q i = q || i
+
+unfoldable pub inFlightAfter : Moment → Bool → Bool → Bool
+inFlightAfter whenSent q i = q
+inFlightAfter whenAcknowledged q i = false
+inFlightAfter whenGivenUp q i = false
+
+-- those of the first k entries, every subscription, presence and value as it was
+unfoldable pub turned : Moment → ℕ → List ℕ → List ℕ
+turned t zero m = m
+turned t (suc k) m =
+    let c = turned t k m in
+    setMarks c k (subscribed c k) (pendingAfter t (pending c k) (inFlight c k)) (inFlightAfter t (pending c k) (inFlight c k))
 
 -- ---- a message (RULES 9, RULES 10)
 
@@ -71,7 +94,7 @@ unfoldable pub carriedOut : List ℕ → List Op → Handled
 carriedOut m os = record { reply = complete (records m os); counted = countsFit (records m os); memory = after m os }
 
 unfoldable pub acknowledged : List ℕ → Handled
-acknowledged m = record { reply = typeNotifyComplete ∷ []; counted = true; memory = setTimer m 0 0 }
+acknowledged m = record { reply = typeNotifyComplete ∷ []; counted = true; memory = setTimer (turned whenAcknowledged entryCount m) 0 0 }
 
 unfoldable pub handled : List ℕ → List ℕ → Handled
 handled m s = cond (isCommand s) (carriedOut m (opsOf s)) (acknowledged m)
@@ -114,10 +137,10 @@ localPermitted n v =
 unfoldable pub differs : List ℕ → ℕ → List ℕ → Bool
 differs m k v = not (same (body m k) v)
 
--- stored or made absent (RULES 13.3, 13.4), and when it is pending then (RULES 13.5 to 13.9)
+-- stored or made absent (RULES 13.3, 13.4), when it is pending then (RULES 13.5 to 13.9), and in flight as it was (RULES 13.11)
 unfoldable pub localMemory : List ℕ → ℕ → List ℕ → List ℕ
 localMemory m k v =
-    put m k (flags (nonempty v) (subscribed m k) (pending m k || (subscribed m k && differs m k v))) v
+    put m k (flags (nonempty v) (subscribed m k) (pending m k || (subscribed m k && differs m k v)) (inFlight m k)) v
 
 unfoldable pub localChecks : List ℕ → ℕ → List ℕ → Checks
 localChecks m n v = check 1 (sound m) (check 12 (localPermitted n v) passed)
@@ -140,11 +163,6 @@ notification m =
     let c = readContents (gathered (reports m entryCount)) in
     typeNotify ∷ be16 (length c) ++ c
 
--- the pending marks of the first k entries cleared
-unfoldable pub cleared : ℕ → List ℕ → List ℕ
-cleared zero m = m
-cleared (suc k) m = let c = cleared k m in setMarks c k (subscribed c k) false
-
 unfoldable pub buildChecks : List ℕ → ℕ → Checks
 buildChecks m n =
     check 1 (sound m)
@@ -154,12 +172,15 @@ buildChecks m n =
 
 unfoldable pub build : List ℕ → List ℕ → Outcome
 build m room =
-    call (buildChecks m (length room)) (done (notification m) (setTimer (cleared entryCount m) 1 0) room) m room
+    call (buildChecks m (length room)) (done (notification m) (turned whenSent entryCount (setTimer m 1 0)) room) m room
 
--- ---- a timer expiry: 20 send again, 21 given up (RULES 14.8, 14.9)
+-- ---- a timer expiry: 20 send again, 21 given up (RULES 14.8 to 14.10)
 
 unfoldable pub expired : List ℕ → Outcome
-expired m = cond (ltb (expiries m) expiriesMost) (numberOnly 20 (setTimer m 1 (expiries m + 1)) []) (numberOnly 21 (setTimer m 0 0) [])
+expired m =
+    cond (ltb (expiries m) expiriesMost)
+    (numberOnly 20 (setTimer m 1 (expiries m + 1)) [])
+    (numberOnly 21 (setTimer (turned whenGivenUp entryCount m) 0 0) [])
 
 unfoldable pub expiryChecks : List ℕ → Checks
 expiryChecks m = check 1 (sound m) (check 8 (waiting m) passed)

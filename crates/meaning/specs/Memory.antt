@@ -14,13 +14,16 @@ use Rattle.meaning.specs.Block.{permits}
 abbrev pub cellAt : ℕ → ℕ
 cellAt k = 6 * k
 
+abbrev pub flagsAt : ℕ → ℕ
+flagsAt k = cellAt k + 2
+
 unfoldable pub cell : List ℕ → ℕ → List ℕ
 cell m k = part m (cellAt k) 6
 
 unfoldable pub room : List ℕ → ℕ → List ℕ
 room m k = part m (roomAt k) (rowAt k .most)
 
--- the three flags (RULES 3.5); there is no other bit
+-- the four flags (RULES 3.5); there is no other bit
 unfoldable pub isPresent : List ℕ → Bool
 isPresent c = eqb (octet c 2 % 2) 1
 
@@ -30,8 +33,11 @@ isSubscribed c = eqb (octet c 2 / 2 % 2) 1
 unfoldable pub isPending : List ℕ → Bool
 isPending c = eqb (octet c 2 / 4 % 2) 1
 
+unfoldable pub isInFlight : List ℕ → Bool
+isInFlight c = eqb (octet c 2 / 8 % 2) 1
+
 abbrev pub flagLimit : ℕ
-flagLimit = 8
+flagLimit = 16
 
 unfoldable pub size : List ℕ → ℕ
 size c = at16 c 4
@@ -46,6 +52,9 @@ subscribed m k = isSubscribed (cell m k)
 
 unfoldable pub pending : List ℕ → ℕ → Bool
 pending m k = isPending (cell m k)
+
+unfoldable pub inFlight : List ℕ → ℕ → Bool
+inFlight m k = isInFlight (cell m k)
 
 unfoldable pub body : List ℕ → ℕ → List ℕ
 body m k = take (size (cell m k)) (room m k)
@@ -67,9 +76,9 @@ unfoldable pub bit : Bool → ℕ → ℕ
 bit true n = n
 bit false n = 0
 
--- the flags present, subscribed and pending
-unfoldable pub flags : Bool → Bool → Bool → ℕ
-flags p s q = bit p 1 + bit s 2 + bit q 4
+-- the flags present, subscribed, pending and in flight
+unfoldable pub flags : Bool → Bool → Bool → Bool → ℕ
+flags p s q i = bit p 1 + bit s 2 + bit q 4 + bit i 8
 
 unfoldable pub cellOf : ℕ → ℕ → ℕ → List ℕ
 cellOf k f n = be16 (rowAt k .name) ++ (f ∷ 0 ∷ be16 n)
@@ -90,32 +99,33 @@ put m k f v = putRoom (putCell m k f (length v)) k v
 
 -- a value made present, its marks as they were (RULES 11.10)
 unfoldable pub store : List ℕ → ℕ → List ℕ → List ℕ
-store m k v = put m k (flags true (subscribed m k) (pending m k)) v
+store m k v = put m k (flags true (subscribed m k) (pending m k) (inFlight m k)) v
 
--- other marks, presence and value as they were
-unfoldable pub setMarks : List ℕ → ℕ → Bool → Bool → List ℕ
-setMarks m k s q = putCell m k (flags (present m k) s q) (size (cell m k))
+-- other marks, presence and every other octet as it was
+unfoldable pub setMarks : List ℕ → ℕ → Bool → Bool → Bool → List ℕ
+setMarks m k s q i = splice m (flagsAt k) (flags (present m k) s q i ∷ [])
 
 unfoldable pub setTimer : List ℕ → ℕ → ℕ → List ℕ
 setTimer m w n = splice m timerAt (w ∷ n ∷ [])
 
 -- ---- sound memory (RULES 5)
 
--- the cell c and the room s are right for the row r (RULES 5.2 to 5.9, 5.11, 5.14)
-unfoldable pub entrySound : Row → List ℕ → List ℕ → Bool
-entrySound r c s =
+-- the cell c and the room s are right for the row r, in memory that waits or does not (RULES 5.2 to 5.9, 5.11, 5.14, 5.17)
+unfoldable pub entrySound : Bool → Row → List ℕ → List ℕ → Bool
+entrySound w r c s =
     every
     (eqb (at16 c 0) (r .name)
     ∷ eqb (octet c 3) 0
     ∷ ltb (octet c 2) flagLimit
     ∷ implies (isPending c) (isSubscribed c && byPort (r .owner))
+    ∷ implies (isInFlight c) (isSubscribed c && (byPort (r .owner) && w))
     ∷ leb (size c) (r .most)
     ∷ cond (isPresent c) (permits r (take (size c) s)) (eqb (size c) 0)
     ∷ blank (drop (size c) s)
     ∷ [])
 
 unfoldable pub entriesSound : List ℕ → Bool
-entriesSound m = below entryCount (λ k. entrySound (rowAt k) (cell m k) (room m k))
+entriesSound m = below entryCount (λ k. entrySound (waiting m) (rowAt k) (cell m k) (room m k))
 
 -- the four values of a block are there (RULES 5.12)
 unfoldable pub fourPresent : List ℕ → Bool
@@ -152,5 +162,5 @@ absent (suc k) m = putCell (absent k m) k 0 0
 unfoldable pub fresh : List ℕ
 fresh =
     put
-    (put (absent entryCount (zeros memoryLength)) gateEnabled (flags true false false) (0 ∷ []))
-    supportedListMax (flags true false false) (0 ∷ 0 ∷ 0 ∷ 64 ∷ [])
+    (put (absent entryCount (zeros memoryLength)) gateEnabled (flags true false false false) (0 ∷ []))
+    supportedListMax (flags true false false false) (0 ∷ 0 ∷ 0 ∷ 64 ∷ [])

@@ -9,7 +9,7 @@ use Rattle.meaning.specs.Checks.{Checks, passed, check, firstFailed, whe
 use Rattle.meaning.specs.Table.{rowAt, place, listed, byController, adminBaseTime, adminControlListLength, adminControlList, adminCycleTime, commit}
 use Rattle.meaning.specs.Wire.{causeNotSupported, causeInvalidValue, causeUnavailable, causeProtocolError}
 use Rattle.meaning.specs.Block.{sums, joinedBlock, formAndFit, permits}
-use Rattle.meaning.specs.Memory.{present, pending, body, store, setMarks, fourPresent}
+use Rattle.meaning.specs.Memory.{present, pending, inFlight, body, store, setMarks, fourPresent}
 use Rattle.meaning.specs.Operation.{Op, capabilities, read, set, subscribe, unsubscribe, selectiveRead, selectiveSubscribe, selectiveUnsubscribe, deleteEntry}
 
 -- an answer: all names; a value or a cause to a read; a value or a cause to a set; no record
@@ -73,10 +73,10 @@ setMemory m n v = whenPassed (firstFailed (setChecks m n v)) (store m (place n) 
 -- ---- subscribe and unsubscribe (RULES 11.21 to 11.24)
 
 unfoldable pub subscribeMemory : List ℕ → ℕ → List ℕ
-subscribeMemory m n = cond (listed n) (setMarks m (place n) true (pending m (place n))) m
+subscribeMemory m n = cond (listed n) (setMarks m (place n) true (pending m (place n)) (inFlight m (place n))) m
 
 unfoldable pub unsubscribeMemory : List ℕ → ℕ → List ℕ
-unsubscribeMemory m n = cond (listed n) (setMarks m (place n) false false) m
+unsubscribeMemory m n = cond (listed n) (setMarks m (place n) false false false) m
 
 -- ---- an operation, and one after another (RULES 10.12); what is not served leaves memory as it is (RULES 11.26 to 11.29)
 

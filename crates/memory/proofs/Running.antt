@@ -2,7 +2,7 @@
 use Prim.Native.Nat.{ℕ, zero, suc, _+_, _-_, _≤_}
 use native.Mathlib.Omega.{arith}
 use mathlib.Core.Path.{_≡_, refl, sym, ap, ap₂, _∙_}
-use mathlib.Core.Bool.{Bool, true}
+use mathlib.Core.Bool.{true, false, _||_, or-false}
 use mathlib.Core.List.{List, [], _∷_, _++_, append-assoc}
 use lib.ListN.{length, take, drop, length-append, length-take, length-replicate}
 use lib.Seq.{take-all, take-take, take-add, drop-drop}
@@ -10,7 +10,7 @@ use borrow.Rule.Slice.PartMut.{putMid}
 use Rattle.meaning.specs.Octets.{part, splice, zeros}
 use Rattle.meaning.specs.Table.{rows, rooms, rowAt, roomAt, adminBaseTime, adminControlListLength, adminControlList, adminCycleTime, commit}
 use Rattle.meaning.specs.Block.{joinedBlock}
-use Rattle.meaning.specs.Memory.{cell, room, size, subscribed, pending, body, flags, cellOf, roomOf, putCell, putRoom, put, store}
+use Rattle.meaning.specs.Memory.{cell, room, size, subscribed, pending, inFlight, body, flags, cellOf, roomOf, putCell, putRoom, put, store}
 use Rattle.meaning.specs.Step.{block}
 use Rattle.meaning.proofs.Lists.{length-part, splice-length, splice-before, splice-after}
 use Rattle.meaning.proofs.Places.{length-cellOf, putCell-length}
@@ -129,11 +129,11 @@ module _ (m : List ℕ) (hm : length m ≡ 2100) (hb : length (body m adminBaseT
         block-fits = omega (arith, long, block-long, list-short)
 
         -- with zeros behind it up to the memory's end, the room holds the block alone
-        pub block-stored : {s q : Bool} {r : List ℕ} → s ≡ subscribed m commit → q ≡ pending m commit → f ≡ flags true s q
+        pub block-stored : {r : List ℕ} → f ≡ flags true (subscribed m commit) (pending m commit || false) (inFlight m commit)
             → r ≡ take 0 (part m₃ end (2100 - end)) ++ zeros (length (part m₃ end (2100 - end)) - 0)
             → putMid end (2100 - end) m₃ r ≡ store m commit (block m)
         unfolding store put putRoom roomOf rowAt roomAt rooms rows
-        block-stored {r = r} hs hq hf e =
+        block-stored {r = r} hf e =
             let b = block-long in
             let l = list-short in
             let o : length m₃ ≡ 2100 = ap length block-written ∙ splice-length m₁ 1630 (block m) block-fits ∙ long in
@@ -142,4 +142,4 @@ module _ (m : List ℕ) (hm : length m ≡ 2100) (hb : length (body m adminBaseT
             let z : r ≡ zeros (470 - length (block m)) = e ∙ ap zeros k in
             let n : length r ≡ 2100 - end = ap length z ∙ length-replicate (470 - length (block m)) 0 ∙ omega (arith, end-is) in
             then m₁ (block m) (zeros (470 - length (block m))) 1630 end block-fits end-is block-written (lent-back m₃ r end 2100 h n ∙ ap (splice m₃ end) z)
-            ∙ ap (λ (t : List ℕ). splice t 1630 (block m ++ zeros (470 - length (block m)))) (e₁ ∙ ap₂ (putCell m commit) (hf ∙ ap₂ (flags true) hs hq) (sym b))
+            ∙ ap (λ (t : List ℕ). splice t 1630 (block m ++ zeros (470 - length (block m)))) (e₁ ∙ ap₂ (putCell m commit) (hf ∙ rw or-false) (sym b))

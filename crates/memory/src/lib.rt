@@ -1,12 +1,13 @@
 // Port memory: an entry read, an entry replaced in its own room, the timer's octets, fresh memory.
 // Every answer and every octet left behind is that of a definition of `meaning`.
-ghost use Prim.Native.Nat.{_≤_, _<_};
+ghost use Prim.Native.Nat.{_%_, _≤_, _<_};
 ghost use mathlib.Core.Path.{_≡_};
-ghost use mathlib.Core.List.{_∷_, _++_};
+ghost use mathlib.Core.Bool.{true, false, _||_};
+ghost use mathlib.Core.List.{[], _∷_, _++_};
 ghost use lib.ListN.{length};
-ghost use Rattle.meaning.specs.Octets.{be16};
+ghost use Rattle.meaning.specs.Octets.{octet, be16, splice};
 ghost use Rattle.meaning.specs.Table.{entryCount, memoryLength, rowAt, adminBaseTime, adminControlListLength, adminCycleTime, commit};
-ghost use Rattle.meaning.specs.Memory.{cell, room, isPresent, isSubscribed, isPending, size, present, subscribed, pending, body, waiting, expiries, bit, flags, putCell, putRoom, put, store, setMarks, setTimer, fourPresent, absent, fresh};
+ghost use Rattle.meaning.specs.Memory.{flagsAt, flagLimit, cell, room, isPresent, isSubscribed, isPending, size, present, subscribed, pending, inFlight, body, waiting, expiries, bit, flags, putCell, putRoom, put, store, setMarks, setTimer, fourPresent, absent, fresh};
 ghost use Rattle.meaning.specs.Step.{block};
 
 // ---- what memory says of a parameter
@@ -31,7 +32,7 @@ pub fn room(m: &[u8], k: usize) -> &[u8]
     &m[start..end]
 }
 
-// The three flags of a cell.
+// Flags of a cell.
 pub fn is_present(c: &[u8]) -> bool
     requires { ⌜ length (now c) ≡ 6 ⌝ }
     ensures { λ r. ⌜ r ≡ isPresent (now (c .entry)) ⌝ }
@@ -111,6 +112,14 @@ pub fn expiries(m: &[u8]) -> u8
     m[table::EXPIRIES_AT]
 }
 
+// All flags of an entry as one octet, without the bits that sound memory never has.
+pub fn flags(m: &[u8], k: usize) -> u8
+    requires { ⌜ (length (now m) ≡ memoryLength) × (k < entryCount) ⌝ }
+    ensures { λ r. ⌜ (r ≡ octet (now (m .entry)) (flagsAt k) % flagLimit) × (r < flagLimit) ⌝ }
+{
+    m[table::CELL_LENGTH * k + table::FLAGS_AT] % table::FLAG_LIMIT
+}
+
 // Whether the four values of a block are there (RULES 5.12).
 pub fn four_present(m: &[u8]) -> bool
     requires { ⌜ length (now m) ≡ memoryLength ⌝ }
@@ -130,11 +139,15 @@ fn bit(on: bool, n: u8) -> u8
     if on { n } else { 0 }
 }
 
-// The flags present, subscribed and pending as one octet.
-pub fn flags(present: bool, subscribed: bool, pending: bool) -> u8
-    ensures { λ r. ⌜ r ≡ flags present subscribed pending ⌝ }
+// The flags of an entry with another presence, and pending besides where a change is due; the marks of the entry as they stand.
+pub fn flags_with(m: &[u8], k: usize, present: bool, due: bool) -> u8
+    requires { ⌜ (length (now m) ≡ memoryLength) × (k < entryCount) ⌝ }
+    ensures { λ r. ⌜ r ≡ flags present (subscribed (now (m .entry)) k) (pending (now (m .entry)) k || due) (inFlight (now (m .entry)) k) ⌝ }
 {
-    bit(present, table::PRESENT) + bit(subscribed, table::SUBSCRIBED) + bit(pending, table::PENDING)
+    let f = flags(m, k);
+    let marks = f / table::SUBSCRIBED * table::SUBSCRIBED;
+    let new = due & (f / table::PENDING % 2 == 0);
+    marks + bit(present, table::PRESENT) + bit(new, table::PENDING)
 }
 
 // A cell's six octets.
@@ -183,9 +196,7 @@ pub fn store(m: &mut [u8], k: usize, v: &[u8])
     requires { ⌜ (length (now m) ≡ memoryLength) × (k < entryCount) × (length (now v) ≤ rowAt k .most) ⌝ }
     ensures { λ _. ⌜ now (m .exit) ≡ store (now (m .entry)) k (now (v .entry)) ⌝ }
 {
-    let s = subscribed(m, k);
-    let q = pending(m, k);
-    let f = flags(true, s, q);
+    let f = flags_with(m, k, true, false);
     put(m, k, f, v);
 }
 
@@ -197,23 +208,41 @@ pub fn store_block(m: &mut [u8])
 {
     let list = body(m, table::ADMIN_CONTROL_LIST).len();
     let n = table::LIST_AT - table::BASE_AT + list;
-    let marked = subscribed(m, table::COMMIT);
-    let due = pending(m, table::COMMIT);
-    let f = flags(true, marked, due);
+    let f = flags_with(m, table::COMMIT, true, false);
     put_cell(m, table::COMMIT, f, n + table::CYCLE_LENGTH);
     let at = octets::copy_within(m, table::BASE_AT, n, table::RUNNING_AT);
     let end = octets::copy_within(m, table::CYCLE_AT, table::CYCLE_LENGTH, at);
     octets::clear_from(&mut m[end..table::MEMORY_LENGTH], 0);
 }
 
-// Other marks, presence and value as they were.
-pub fn set_marks(m: &mut [u8], k: usize, s: bool, q: bool)
+// The flags of an entry replaced, and no other octet.
+pub fn put_flags(m: &mut [u8], k: usize, f: u8)
     requires { ⌜ (length (now m) ≡ memoryLength) × (k < entryCount) ⌝ }
-    ensures { λ _. ⌜ now (m .exit) ≡ setMarks (now (m .entry)) k s q ⌝ }
+    ensures { λ _. ⌜ now (m .exit) ≡ splice (now (m .entry)) (flagsAt k) (f ∷ []) ⌝ }
 {
-    let f = flags(present(m, k), s, q);
-    let n = size(cell(m, k));
-    put_cell(m, k, f, n);
+    m[table::CELL_LENGTH * k + table::FLAGS_AT] = f;
+}
+
+// Subscribed, the other flags as they stand.
+pub fn subscribe(m: &mut [u8], k: usize)
+    requires { ⌜ (length (now m) ≡ memoryLength) × (k < entryCount) ⌝ }
+    ensures { λ _. ⌜ now (m .exit) ≡ setMarks (now (m .entry)) k true (pending (now (m .entry)) k) (inFlight (now (m .entry)) k) ⌝ }
+{
+    let f = flags(m, k);
+    put_flags(
+        m,
+        k,
+        f / table::PENDING * table::PENDING + table::SUBSCRIBED + f % table::SUBSCRIBED,
+    );
+}
+
+// No mark is left, presence as it stands.
+pub fn unsubscribe(m: &mut [u8], k: usize)
+    requires { ⌜ (length (now m) ≡ memoryLength) × (k < entryCount) ⌝ }
+    ensures { λ _. ⌜ now (m .exit) ≡ setMarks (now (m .entry)) k false false false ⌝ }
+{
+    let f = flags(m, k);
+    put_flags(m, k, f % table::SUBSCRIBED);
 }
 
 // The timer's two octets.

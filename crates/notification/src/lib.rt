@@ -1,15 +1,16 @@
-// Notifications: what is due to be reported, its octets, and the marks cleared. All of it goes by the pending marks of a
-// sound memory, in table order.
+// Notifications: what is due to be reported, its octets, and what becomes of the marks. The first two go by the pending marks
+// of a sound memory, in table order.
 ghost use Prim.Native.Nat.{_+_, _≤_, _<_};
 ghost use mathlib.Core.Path.{_≡_};
 ghost use mathlib.Core.Bool.{true};
 ghost use lib.ListN.{length};
 ghost use Rattle.meaning.specs.Table.{memoryLength, entryCount};
 ghost use Rattle.meaning.specs.Wire.{notificationRoom};
-ghost use Rattle.meaning.specs.Memory.{sound};
-ghost use Rattle.meaning.specs.Calls.{reports, notification, cleared};
+ghost use Rattle.meaning.specs.Memory.{flagLimit, setTimer, sound};
+ghost use Rattle.meaning.specs.Calls.{reports, notification, whenSent, turned};
 ghost use Rattle.octets.specs.Writing.{Wrote};
 ghost use Rattle.notification.specs.Reports.{Few, more, dueAt, dueOf, partOf};
+ghost use Rattle.notification.specs.Moments.{momentOf, flagsAfter};
 
 // The records due: how many values with their octets, and how many absent ones.
 pub struct Due {
@@ -106,15 +107,59 @@ pub fn write(m: &[u8], d: Due, out: &mut [u8]) -> usize
     write_kind(m, false, out, absent)
 }
 
-// The pending marks cleared.
-pub fn clear(m: &mut [u8])
+// What comes of a notification: it is sent, acknowledged, or given up.
+pub enum Moment {
+    Sent,
+    Acknowledged,
+    GivenUp,
+}
+
+// The flags of an entry then: pending turns to in flight; in flight goes; in flight turns back to pending, which may stand
+// beside it. The flags below are kept by a mask.
+fn flags_after(moment: Moment, f: u8) -> u8
+    requires { ⌜ f < flagLimit ⌝ }
+    ensures { λ r. ⌜ r ≡ flagsAfter (momentOf moment) f ⌝ }
+{
+    match moment {
+        Moment::Sent => f % table::PENDING + f / table::PENDING % 2 * table::IN_FLIGHT,
+        Moment::Acknowledged => f % table::IN_FLIGHT,
+        Moment::GivenUp => {
+            if f < table::IN_FLIGHT {
+                f
+            } else {
+                f % table::PENDING + table::PENDING
+            }
+        }
+    }
+}
+
+// The marks of all entries turned.
+fn turn(m: &mut [u8], moment: Moment)
     requires { ⌜ length (now m) ≡ memoryLength ⌝ }
-    ensures { λ _. ⌜ now (m .exit) ≡ cleared entryCount (now (m .entry)) ⌝ }
+    ensures { λ _. ⌜ now (m .exit) ≡ turned (momentOf moment) entryCount (now (m .entry)) ⌝ }
 {
     let mut k: usize = 0;
     while k < table::ENTRY_COUNT {
-        let s = memory::subscribed(m, k);
-        memory::set_marks(m, k, s, false);
+        let f = flags_after(moment, memory::flags(m, k));
+        memory::put_flags(m, k, f);
         k += 1;
     }
+}
+
+// A notification is sent: the port waits, and what was pending is in flight.
+pub fn begin_wait(m: &mut [u8])
+    requires { ⌜ length (now m) ≡ memoryLength ⌝ }
+    ensures { λ _. ⌜ now (m .exit) ≡ turned whenSent entryCount (setTimer (now (m .entry)) 1 0) ⌝ }
+{
+    memory::set_timer(m, table::WAITING, 0);
+    turn(m, Moment::Sent);
+}
+
+// It is acknowledged or given up: the port is idle.
+pub fn end_wait(m: &mut [u8], moment: Moment)
+    requires { ⌜ length (now m) ≡ memoryLength ⌝ }
+    ensures { λ _. ⌜ now (m .exit) ≡ setTimer (turned (momentOf moment) entryCount (now (m .entry))) 0 0 ⌝ }
+{
+    turn(m, moment);
+    memory::set_timer(m, table::IDLE, 0);
 }

@@ -1,19 +1,20 @@
 -- The tests as the code makes them: an entry without its tail, all entries and their tails, the whole memory.
-use Prim.Native.Nat.{ℕ, zero, suc, _+_, _-_, _≤_, _<_}
+use Prim.Native.Nat.{ℕ, zero, suc, _+_, _-_, _/_, _%_, _≤_, _<_}
 use native.Mathlib.Omega.{arith}
 use native.Mathlib.Nat.{add-zero, add-suc, sub-zero}
 use native.Mathlib.Numerals.{add-one}
+use native.Mathlib.Decide.{decLe}
 use mathlib.Core.Path.{_≡_, refl, sym, ap}
 use mathlib.Core.Bool.{Bool, true, false, _&&_, _||_, not, cond, and-true, and-assoc, and-comm}
 use mathlib.Core.List.{List}
 use lib.ListN.{length, take}
 use lib.Seq.{length-take-le}
-use lib.Dec.{eqb, ltb}
-use borrow.Author.Tests.{eq-eqb, leb-true, le-leb}
+use lib.Dec.{eqb, leb, ltb}
+use borrow.Author.Tests.{eq-eqb, leb-true, le-leb, le-ltb}
 use Rattle.meaning.specs.Octets.{octet, at16, every, below, implies}
 use Rattle.meaning.specs.Table.{Row, rowAt, byPort, entryCount}
 use Rattle.meaning.specs.Block.{permits}
-use Rattle.meaning.specs.Memory.{cell, room, isPresent, isSubscribed, isPending, size, entrySound, entriesSound, sound}
+use Rattle.meaning.specs.Memory.{cell, room, isPresent, isSubscribed, isPending, isInFlight, size, waiting, entrySound, entriesSound, sound}
 use Rattle.meaning.proofs.Tests.{every-at, below-at}
 use Rattle.soundness.specs.Fields.{cellSound, fieldsSound, fieldsAt, tailAt, allFields, allTails, acrossSound}
 
@@ -42,21 +43,54 @@ below-same f g e zero = refl
 below-same f g e (suc n) = rw (below-same f g e n, e n)
 
 -- an entry is sound: what it holds, and its tail
-entry-parts : (m : List ℕ) (k : ℕ) → entrySound (rowAt k) (cell m k) (room m k) ≡ (fieldsAt m k && tailAt m k)
+entry-parts : (m : List ℕ) (k : ℕ) → entrySound (waiting m) (rowAt k) (cell m k) (room m k) ≡ (fieldsAt m k && tailAt m k)
 unfolding entrySound fieldsAt fieldsSound cellSound tailAt every
 entry-parts m k = simp (and-assoc, and-true)
 
+-- the marks by two comparisons, and by name: tried on the sixteen octets that flags may be, and neither passes for a larger one
+abbrev byNumber : Bool → Bool → ℕ → Bool
+byNumber w p f = ltb f (cond w 16 8) && (not (leb 4 f) || (eqb (f / 2 % 2) 1 && p))
+
+abbrev byName : Bool → Bool → ℕ → Bool
+byName w p f = ltb f 16 && (implies (eqb (f / 4 % 2) 1) (eqb (f / 2 % 2) 1 && p) && implies (eqb (f / 8 % 2) 1) (eqb (f / 2 % 2) 1 && (p && w)))
+
+abbrev agree : Bool → Bool → Bool
+agree a b = cond a b (not b)
+
+agreed : (a b : Bool) → agree a b ≡ true → a ≡ b
+agreed true b e = sym e
+agreed false true e = e
+agreed false false e = refl
+
+tests-agree : (w p : Bool) → below 16 (λ f. agree (byNumber w p f) (byName w p f)) ≡ true
+unfolding below implies
+tests-agree true true = refl
+tests-agree true false = refl
+tests-agree false true = refl
+tests-agree false false = refl
+
+flags-tests : (w p : Bool) (f : ℕ) → byNumber w p f ≡ byName w p f
+flags-tests w p f = go (decLe 16 f)
+  where
+    over : (v : Bool) → 16 ≤ f → ltb f (cond v 16 8) ≡ false
+    over true h = le-ltb f 16 h
+    over false h = le-ltb f 8 (omega arith)
+
+    go : Dec (16 ≤ f) → byNumber w p f ≡ byName w p f
+    go (yes h) = rw (over w h, le-ltb f 16 h)
+    go (no h) = agreed _ _ (below-at 16 (λ x. agree (byNumber w p x) (byName w p x)) (tests-agree w p) f (omega arith))
+
 -- a cell's tests of what was found in it and in its row
-pub cell-found : (r : Row) (c : List ℕ) {i n : ℕ} {q s p : Bool} → i ≡ at16 c 0 → n ≡ r .name → q ≡ isPending c → s ≡ isSubscribed c → p ≡ byPort (r .owner)
-    → (eqb i n && (eqb (octet c 3) 0 && (ltb (octet c 2) 8 && (not q || (s && p))))) ≡ cellSound r c
-unfolding cellSound every implies
-cell-found r c ei en eq es ep = rw (ei, en, eq, es, ep, and-true)
+pub cell-found : (w : Bool) (r : Row) (c : List ℕ) {i n l : ℕ} {s p : Bool} → i ≡ at16 c 0 → n ≡ r .name → l ≡ cond w 16 8 → s ≡ isSubscribed c → p ≡ byPort (r .owner)
+    → (eqb i n && (eqb (octet c 3) 0 && (ltb (octet c 2) l && (not (leb 4 (octet c 2)) || (s && p))))) ≡ cellSound w r c
+unfolding cellSound every isSubscribed isPending isInFlight
+cell-found w r c ei en el es ep = rw (ei, en, el, es, ep, and-true, flags-tests w (byPort (r .owner)) (octet c 2))
 
 -- what an entry holds, from a value of n octets that is cut from its room
-pub fields-tests : (r : Row) (c s : List ℕ) (n : ℕ) → n ≡ size c → n ≤ length s → length s ≡ r .most
-    → (cellSound r c && cond (isPresent c) (permits r (take (n - 0) s)) (eqb (length (take (n - 0) s)) 0)) ≡ fieldsSound r c s
+pub fields-tests : (w : Bool) (r : Row) (c s : List ℕ) (n : ℕ) → n ≡ size c → n ≤ length s → length s ≡ r .most
+    → (cellSound w r c && cond (isPresent c) (permits r (take (n - 0) s)) (eqb (length (take (n - 0) s)) 0)) ≡ fieldsSound w r c s
 unfolding fieldsSound every
-fields-tests r c s n e h l =
+fields-tests w r c s n e h l =
     rw (sub-zero, length-take-le n s h, sym e, le-leb n (r .most) (omega arith), and-true)
 
 -- entries looked at one after another
@@ -73,7 +107,7 @@ unfolding sound entriesSound allFields allTails acrossSound every
 sound-parts m h =
     rw (
       eq-eqb (length m) 2100 h,
-      below-same (λ k. entrySound (rowAt k) (cell m k) (room m k)) (λ k. fieldsAt m k && tailAt m k) (entry-parts m) entryCount,
+      below-same (λ k. entrySound (waiting m) (rowAt k) (cell m k) (room m k)) (λ k. fieldsAt m k && tailAt m k) (entry-parts m) entryCount,
       below-both (fieldsAt m) (tailAt m) entryCount,
     )
     (simp and-assoc)

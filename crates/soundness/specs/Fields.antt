@@ -7,26 +7,27 @@ use lib.Dec.{eqb, leb, ltb}
 use Rattle.meaning.specs.Octets.{octet, at16, part, blank, every, below, implies}
 use Rattle.meaning.specs.Table.{Row, rowAt, roomAt, byPort, entryCount, gateEnabled, supportedListMax, commit}
 use Rattle.meaning.specs.Block.{permits}
-use Rattle.meaning.specs.Memory.{cell, room, isPresent, isSubscribed, isPending, size, flagLimit, present, timer, fourPresent, timerSound}
+use Rattle.meaning.specs.Memory.{cell, room, isPresent, isSubscribed, isPending, isInFlight, size, flagLimit, present, timer, waiting, fourPresent, timerSound}
 use Rattle.soundness.specs.declared.Gap.{Gap}
 
--- name, zero octet, flags, marks
-unfoldable pub cellSound : Row → List ℕ → Bool
-cellSound r c =
+-- name, zero octet, flags, marks, in memory that waits or does not
+unfoldable pub cellSound : Bool → Row → List ℕ → Bool
+cellSound w r c =
     every
     (eqb (at16 c 0) (r .name)
     ∷ eqb (octet c 3) 0
     ∷ ltb (octet c 2) flagLimit
     ∷ implies (isPending c) (isSubscribed c && byPort (r .owner))
+    ∷ implies (isInFlight c) (isSubscribed c && (byPort (r .owner) && w))
     ∷ [])
 
 -- length and value besides
-unfoldable pub fieldsSound : Row → List ℕ → List ℕ → Bool
-fieldsSound r c s =
-    every (cellSound r c ∷ leb (size c) (r .most) ∷ cond (isPresent c) (permits r (take (size c) s)) (eqb (size c) 0) ∷ [])
+unfoldable pub fieldsSound : Bool → Row → List ℕ → List ℕ → Bool
+fieldsSound w r c s =
+    every (cellSound w r c ∷ leb (size c) (r .most) ∷ cond (isPresent c) (permits r (take (size c) s)) (eqb (size c) 0) ∷ [])
 
 unfoldable pub fieldsAt : List ℕ → ℕ → Bool
-fieldsAt m k = fieldsSound (rowAt k) (cell m k) (room m k)
+fieldsAt m k = fieldsSound (waiting m) (rowAt k) (cell m k) (room m k)
 
 unfoldable pub tailAt : List ℕ → ℕ → Bool
 tailAt m k = blank (drop (size (cell m k)) (room m k))

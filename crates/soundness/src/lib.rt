@@ -8,23 +8,36 @@ ghost use lib.ListN.{length};
 ghost use lib.Dec.{eqb};
 ghost use Rattle.meaning.specs.Table.{entryCount, memoryLength, rowAt, roomAt};
 ghost use Rattle.meaning.specs.Block.{permits};
-ghost use Rattle.meaning.specs.Memory.{cell, isPresent, size, timerSound, sound};
+ghost use Rattle.meaning.specs.Memory.{flagLimit, cell, isPresent, size, timerSound, sound};
 ghost use Rattle.soundness.specs.Fields.{cellSound, fieldsAt, gapAt, allFields, allTails, acrossSound};
 
-// Name, zero octet and flags of a cell (RULES 5.2 to 5.6).
-fn cell_sound(k: usize, c: &[u8]) -> bool
+// The first octet that the flags of a cell may not be. In flight is the highest flag, and stands only while waiting.
+fn flag_limit(waiting: bool) -> u8
+    ensures { λ r. ⌜ r ≡ cond waiting flagLimit 8 ⌝ }
+{
+    if waiting {
+        table::FLAG_LIMIT
+    } else {
+        table::IN_FLIGHT
+    }
+}
+
+// Name, zero octet and flags of a cell (RULES 5.2 to 5.6, 5.17). Pending and in flight are the two highest flags and ask for the same,
+// so one comparison tells of either.
+fn cell_sound(k: usize, c: &[u8], waiting: bool) -> bool
     requires { ⌜ length (now c) ≡ 6 ⌝ }
-    ensures { λ r. ⌜ r ≡ cellSound (rowAt k) (now (c .entry)) ⌝ }
+    ensures { λ r. ⌜ r ≡ cellSound waiting (rowAt k) (now (c .entry)) ⌝ }
 {
     let row = table::row_at(k);
     let named = octets::get16(c, 0) == row.name;
     let owner = row.owner;
-    let pending = memory::is_pending(c);
+    let limit = flag_limit(waiting);
+    let marked = table::PENDING <= c[table::FLAGS_AT];
     let subscribed = memory::is_subscribed(c);
     let port = table::by_port(owner);
     named
         & ((c[table::ZERO_AT] == 0)
-            & ((c[table::FLAGS_AT] < table::FLAG_LIMIT) & (!pending | (subscribed & port))))
+            & ((c[table::FLAGS_AT] < limit) & (!marked | (subscribed & port))))
 }
 
 // A present value keeps its row, an absent one has length 0.
@@ -50,7 +63,7 @@ fn fields_at(m: &[u8], k: usize) -> bool
     if s.len() < n {
         return false;
     }
-    cell_sound(k, c) & value_sound(k, c, &s[0..n])
+    cell_sound(k, c, memory::waiting(m)) & value_sound(k, c, &s[0..n])
 }
 
 // All entries. Each place is a constant here, so that its row is folded into the compiled code; the tests are joined in two halves,

@@ -35,7 +35,9 @@ pub const SUBSCRIBED: u8 = 2;
 
 pub const PENDING: u8 = 4;
 
-pub const FLAG_LIMIT: u8 = 8;
+pub const IN_FLIGHT: u8 = 8;
+
+pub const FLAG_LIMIT: u8 = 16;
 
 // What the timer's first octet holds.
 pub const IDLE: u8 = 0;

@@ -8,20 +8,17 @@ use Rattle.command.proofs.subscribe.Tie as tie
 place-of-requires : tie.Need-place-of-requires
 place-of-requires c κs = search needs
 
-pending-requires : tie.Need-pending-requires
-pending-requires c κs = search needs
-
-set-marks-requires : tie.Need-set-marks-requires
-set-marks-requires c κs = search needs
+subscribe-requires : tie.Need-subscribe-requires
+subscribe-requires c κs = search needs
 
 same-length : tie.Need-same-length
 same-length c = search needs
 
 returns : tie.Need-returns
 returns c =
-    let p = c .before .before .before .before .before .before in
+    let p = c .before .before .before .before in
     let a = p .before .before .before .args in
-    subscribe-listed (a .m .now) (a .name) _ (p .before .place-of .ensures) (p .if1 .taken) (c .before .before .before .before .pending .ensures) (c .before .before .set-marks .ensures)
+    subscribe-listed (a .m .now) (a .name) _ (p .before .place-of .ensures) (p .if1 .taken) (c .before .before .subscribe .ensures)
 
 returns-2 : tie.Need-returns-2
 returns-2 c =
@@ -31,4 +28,4 @@ returns-2 c =
 pub subscribe-spec : {M : Type 1} → statement M
 subscribe-spec =
     tie.close
-    (tie.spec place-of-requires pending-requires set-marks-requires same-length returns returns-2)
+    (tie.spec place-of-requires subscribe-requires same-length returns returns-2)

@@ -7,8 +7,8 @@ use Rattle.command.proofs.unsubscribe.Tie as tie
 place-of-requires : tie.Need-place-of-requires
 place-of-requires c κs = search needs
 
-set-marks-requires : tie.Need-set-marks-requires
-set-marks-requires c κs = search needs
+unsubscribe-requires : tie.Need-unsubscribe-requires
+unsubscribe-requires c κs = search needs
 
 same-length : tie.Need-same-length
 same-length c = search needs
@@ -17,7 +17,7 @@ returns : tie.Need-returns
 returns c =
     let p = c .before .before .before .before in
     let a = p .before .before .before .args in
-    unsubscribe-listed (a .m .now) (a .name) _ (p .before .place-of .ensures) (p .if1 .taken) (c .before .before .set-marks .ensures)
+    unsubscribe-listed (a .m .now) (a .name) _ (p .before .place-of .ensures) (p .if1 .taken) (c .before .before .unsubscribe .ensures)
 
 returns-2 : tie.Need-returns-2
 returns-2 c =
@@ -26,4 +26,4 @@ returns-2 c =
 
 pub unsubscribe-spec : {M : Type 1} → statement M
 unsubscribe-spec =
-    tie.close (tie.spec place-of-requires set-marks-requires same-length returns returns-2)
+    tie.close (tie.spec place-of-requires unsubscribe-requires same-length returns returns-2)

@@ -3,7 +3,10 @@ use mathlib.Core.Path.{_≡_, refl, sym, _∙_}
 use mathlib.Core.Bool.{true}
 use mathlib.Core.List.{[], _∷_}
 use borrow.Author.Needs.{needs}
-use Rattle.meaning.specs.Memory.{waiting, setTimer}
+use Rattle.meaning.specs.Memory.{waiting}
+use Rattle.meaning.specs.Calls.{whenAcknowledged}
+use Rattle.meaning.proofs.Kept.{idled}
+use Rattle.notification.specs.Moments.{momentOf}
 use Rattle.meaning.proofs.Tests.{denied, affirmed}
 use Rattle.command.proofs.Sets.{long-of}
 use Rattle.endpoint.specs.Outcomes.{numberOf, lengthOf, positionOf}
@@ -39,8 +42,8 @@ returns-2 c =
 slice-write-room : tie.Need-slice-write-room
 slice-write-room c = search needs
 
-set-timer-requires : tie.Need-set-timer-requires
-set-timer-requires c κs = long-of _ (c .before .before .before .before .before .before .before .pre)
+end-wait-requires : tie.Need-end-wait-requires
+end-wait-requires c κs = long-of _ (c .before .before .before .before .before .before .before .pre)
 
 same-length-3 : tie.Need-same-length-3
 same-length-3 c = search needs
@@ -49,10 +52,11 @@ same-length-4 : tie.Need-same-length-4
 same-length-4 c = search needs
 
 returns-3 : tie.Need-returns-3
+unfolding momentOf
 returns-3 c =
     let a = c .before .before .before .before .before .before .before .before .before .before .args in
     let k = c .before .before .before .before in
-    gives-done (5 ∷ []) (setTimer (a .memory .now) 0 0) (a .room .now) 1 (acknowledgement-fits (a .memory .now) (a .room .now) (waits (k .before)) (k .if2 .left)) refl (c .before .before .set-timer .ensures) (first-set (a .room .now) 5 (k .if2 .left))
+    gives-done (5 ∷ []) (idled whenAcknowledged (a .memory .now)) (a .room .now) 1 (acknowledgement-fits (a .memory .now) (a .room .now) (waits (k .before)) (k .if2 .left)) refl (c .before .before .end-wait .ensures) (first-set (a .room .now) 5 (k .if2 .left))
 
 pub acknowledge-spec : {M : Type 1} → statement M
 acknowledge-spec =
@@ -64,7 +68,7 @@ acknowledge-spec =
     same-length-2
     returns-2
     slice-write-room
-    set-timer-requires
+    end-wait-requires
     same-length-3
     same-length-4
     returns-3)

@@ -8,7 +8,7 @@ use mathlib.Core.List.{List}
 use borrow.Author.Needs.{needs}
 use Rattle.meaning.specs.Table.{entryCount}
 use Rattle.meaning.specs.Memory.{setTimer, sound, waiting}
-use Rattle.meaning.specs.Calls.{notification, cleared}
+use Rattle.meaning.specs.Calls.{notification, whenSent, turned}
 use Rattle.meaning.proofs.Timer.{build-does}
 use Rattle.meaning.proofs.Tests.{denied, affirmed}
 use Rattle.meaning.proofs.Sound.{opened}
@@ -87,11 +87,8 @@ write-requires c κs =
     let k = c .before .before .before .before .before .before in
     (tested (k .before .before .before .before), c .before .before .before .before .count .ensures, k .before .before .before .if2 .left)
 
-clear-requires : tie.Need-clear-requires
-clear-requires c κs = opened _ (tested (c .before .before .before .before .before .before .before .before .before .before .before .before .before .before)) .long
-
-set-timer-requires : tie.Need-set-timer-requires
-set-timer-requires c κs = c .before .before .before .clear .kept .0 ∙ opened _ (tested (c .before .before .before .before .before .before .before .before .before .before .before .before .before .before .before .before .before .before)) .long
+begin-wait-requires : tie.Need-begin-wait-requires
+begin-wait-requires c κs = opened _ (tested (c .before .before .before .before .before .before .before .before .before .before .before .before .before .before)) .long
 
 same-length-5 : tie.Need-same-length-5
 same-length-5 c = search needs
@@ -101,14 +98,14 @@ same-length-6 c = search needs
 
 returns-5 : tie.Need-returns-5
 returns-5 c =
-    let n = c .before .before .before .before .before .before .before .before .before .before .before .before .before .before .before .count in
-    let k = c .before .before .before .before .before .before .before .before .before .before .before .before .before .before .before .before .before in
+    let n = c .before .before .before .before .before .before .before .before .before .before .before .count in
+    let k = c .before .before .before .before .before .before .before .before .before .before .before .before .before in
     let a = k .before .before .before .before .before .before .before .before .before .args in
     let m = a .memory .now in
-    let w = c .before .before .before .before .before .before .before .before .before .before .write .ensures in
-    gives-done (notification m) (setTimer (cleared entryCount m) 1 0) (a .room .now) _
-    (build-does m (a .room .now) (tested (k .before .before .before .before)) (k .before .before .before .if2 .left) (idle k) (some-counted m (n .result) (n .ensures) (c .before .before .before .before .before .before .before .before .before .before .before .before .before .if4 .left)))
-    (w .0 ∙ zero-add _) (c .before .before .set-timer .ensures ∙ ap (λ (s : List ℕ). setTimer s 1 0) (c .before .before .before .before .before .before .clear .ensures)) (w .1 ∙ at-start (a .room .now) (notification m))
+    let w = c .before .before .before .before .before .before .write .ensures in
+    gives-done (notification m) (turned whenSent entryCount (setTimer m 1 0)) (a .room .now) _
+    (build-does m (a .room .now) (tested (k .before .before .before .before)) (k .before .before .before .if2 .left) (idle k) (some-counted m (n .result) (n .ensures) (c .before .before .before .before .before .before .before .before .before .if4 .left)))
+    (w .0 ∙ zero-add _) (c .before .before .begin-wait .ensures) (w .1 ∙ at-start (a .room .now) (notification m))
 
 pub build-spec : {M : Type 1} → statement M
 build-spec =
@@ -127,8 +124,7 @@ build-spec =
     same-length-4
     returns-4
     write-requires
-    clear-requires
-    set-timer-requires
+    begin-wait-requires
     same-length-5
     same-length-6
     returns-5)

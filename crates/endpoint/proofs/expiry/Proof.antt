@@ -6,10 +6,13 @@ use mathlib.Core.Bool.{true}
 use mathlib.Core.List.{[]}
 use borrow.Author.Needs.{needs}
 use Rattle.meaning.specs.Memory.{sound, waiting, expiries, setTimer}
+use Rattle.meaning.specs.Calls.{whenGivenUp}
 use Rattle.meaning.proofs.Tests.{denied, affirmed}
 use Rattle.meaning.proofs.Sound.{opened}
 use Rattle.meaning.proofs.Numbers.{expiry-1, expiry-8}
+use Rattle.meaning.proofs.Kept.{idled}
 use Rattle.meaning.proofs.Timer.{expiry-again, expiry-given-up}
+use Rattle.notification.specs.Moments.{momentOf}
 use Rattle.endpoint.specs.Outcomes.{numberOf, lengthOf, positionOf}
 use Rattle.endpoint.specs.declared.Outcome.the-variants.{MemoryUnsound, Idle, SendAgain, GivenUp}
 use Rattle.endpoint.proofs.Exits.{gives-number, gives-left, counted-on}
@@ -68,20 +71,20 @@ returns-3 c =
     gives-left (setTimer m 1 (expiries m + 1)) 20 SendAgain (expiry-again m (tested (k .before .before .before)) (waits k) (omega (arith, e, t .if3 .taken))) refl refl refl
     (counted-on m e (c .before .before .set-timer .ensures))
 
-set-timer-requires-2 : tie.Need-set-timer-requires-2
-set-timer-requires-2 c κs = opened _ (tested (c .before .before .before .before .before .before .before)) .long
+end-wait-requires : tie.Need-end-wait-requires
+end-wait-requires c κs = opened _ (tested (c .before .before .before .before .before .before .before)) .long
 
 same-length-4 : tie.Need-same-length-4
 same-length-4 c = search needs
 
 returns-4 : tie.Need-returns-4
-unfolding numberOf lengthOf positionOf
+unfolding numberOf lengthOf positionOf momentOf
 returns-4 c =
     let t = c .before .before .before .before in
     let e = t .before .expiries .ensures in
     let k = t .before .before .before in
     let m = k .before .before .before .before .before .before .before .args .memory .now in
-    gives-left (setTimer m 0 0) 21 GivenUp (expiry-given-up m (tested (k .before .before .before)) (waits k) (omega (arith, e, t .if3 .left))) refl refl refl (c .before .before .set-timer2 .ensures)
+    gives-left (idled whenGivenUp m) 21 GivenUp (expiry-given-up m (tested (k .before .before .before)) (waits k) (omega (arith, e, t .if3 .left))) refl refl refl (c .before .before .end-wait .ensures)
 
 pub expiry-spec : {M : Type 1} → statement M
 expiry-spec =
@@ -98,6 +101,6 @@ expiry-spec =
     set-timer-requires
     same-length-3
     returns-3
-    set-timer-requires-2
+    end-wait-requires
     same-length-4
     returns-4)

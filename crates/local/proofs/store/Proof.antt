@@ -17,11 +17,8 @@ body-requires c κs = search needs
 same-requires : tie.Need-same-requires
 same-requires c κs = search needs
 
-pending-requires : tie.Need-pending-requires
-pending-requires c κs = search needs
-
-flags-requires : tie.Need-flags-requires
-flags-requires c κs = search needs
+flags-with-requires : tie.Need-flags-with-requires
+flags-with-requires c κs = search needs
 
 put-requires : tie.Need-put-requires
 put-requires c κs = search needs
@@ -31,10 +28,10 @@ same-length c = search needs
 
 returns : tie.Need-returns
 returns c =
-    let a = c .before .before .before .before .before .before .before .before .before .before .before .before .before .before .args in
-    stored-is (a .m .now) (a .k) (a .value .now) _ (c .before .before .before .before .before .before .before .before .before .before .subscribed .ensures)
-    (c .before .before .before .before .before .before .before .same .ensures ∙ ap (λ (s : List ℕ). same s (a .value .now)) (c .before .before .before .before .before .before .before .before .body .ensures))
-    (c .before .before .before .before .before .pending .ensures) (c .before .before .before .before .flags .ensures) (c .before .before .put .ensures)
+    let a = c .before .before .before .before .before .before .before .before .before .before .before .before .before .args in
+    stored-is (a .m .now) (a .k) (a .value .now) _ (c .before .before .before .before .before .before .before .before .before .subscribed .ensures)
+    (c .before .before .before .before .before .before .same .ensures ∙ ap (λ (s : List ℕ). same s (a .value .now)) (c .before .before .before .before .before .before .before .body .ensures))
+    (c .before .before .before .before .flags-with .ensures) (c .before .before .put .ensures)
 
 pub store-spec : {M : Type 1} → statement M
 store-spec =
@@ -43,8 +40,7 @@ store-spec =
     subscribed-requires
     body-requires
     same-requires
-    pending-requires
-    flags-requires
+    flags-with-requires
     put-requires
     same-length
     returns)

@@ -1,21 +1,15 @@
 -- `memory::store` meets its contract.
 use Prim.Native.Nat.{ℕ}
 use mathlib.Core.Path.{_≡_, _∙_}
-use mathlib.Core.Bool.{Bool, true}
+use mathlib.Core.Bool.{true, false, _||_, or-false}
 use mathlib.Core.List.{List}
 use borrow.Author.Needs.{needs}
-use Rattle.meaning.specs.Memory.{subscribed, pending, flags, put, store}
+use Rattle.meaning.specs.Memory.{subscribed, pending, inFlight, flags, put, store}
 use Rattle.memory.proofs.store.Statement.{statement}
 use Rattle.memory.proofs.store.Tie as tie
 
-subscribed-requires : tie.Need-subscribed-requires
-subscribed-requires c κs = search needs
-
-pending-requires : tie.Need-pending-requires
-pending-requires c κs = search needs
-
-flags-requires : tie.Need-flags-requires
-flags-requires c κs = search needs
+flags-with-requires : tie.Need-flags-with-requires
+flags-with-requires c κs = search needs
 
 put-requires : tie.Need-put-requires
 put-requires c κs = search needs
@@ -24,21 +18,15 @@ same-length : tie.Need-same-length
 same-length c = search needs
 
 -- an entry put with the marks that were found
-marked : (m : List ℕ) (k : ℕ) (v : List ℕ) {s q : Bool} {f : ℕ} {m′ : List ℕ} → s ≡ subscribed m k → q ≡ pending m k → f ≡ flags true s q
+marked : (m : List ℕ) (k : ℕ) (v : List ℕ) {f : ℕ} {m′ : List ℕ} → f ≡ flags true (subscribed m k) (pending m k || false) (inFlight m k)
     → m′ ≡ put m k f v → m′ ≡ store m k v
 unfolding store
-marked m k v e h g w = w ∙ rw (g, e, h)
+marked m k v e w = w ∙ rw (e, or-false)
 
 returns : tie.Need-returns
 returns c =
-    let a = c .before .before .before .before .before .before .before .before .before .before .before .args in
-    marked (a .m .now) (a .k) (a .v .now)
-    (c .before .before .before .before .before .before .before .subscribed .ensures)
-    (c .before .before .before .before .before .pending .ensures)
-    (c .before .before .before .before .flags .ensures)
-    (c .before .before .put .ensures)
+    let a = c .before .before .before .before .before .before .before .before .args in
+    marked (a .m .now) (a .k) (a .v .now) (c .before .before .before .before .flags-with .ensures) (c .before .before .put .ensures)
 
 pub store-spec : {M : Type 1} → statement M
-store-spec =
-    tie.close
-    (tie.spec subscribed-requires pending-requires flags-requires put-requires same-length returns)
+store-spec = tie.close (tie.spec flags-with-requires put-requires same-length returns)

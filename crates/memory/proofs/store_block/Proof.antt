@@ -27,10 +27,10 @@ module _ (c : tie.After-body) where
 -- the block's cell
 module _ (c : tie.After-put-cell) where
   abbrev found : tie.After-body
-  found = c .before .before .before .before .before .before .before
+  found = c .before .before .before .before
 
   abbrev f : ℕ
-  f = c .before .before .flags .result
+  f = c .before .before .flags-with .result
 
   named : c .put-cell .last .0 ≡ putCell (m found) commit f (14 + length (body (m found) adminControlList) + 8)
   named = c .put-cell .ensures ∙ ap (λ (l : List ℕ). putCell (m found) commit f (14 + length l + 8)) (list-is found)
@@ -71,27 +71,21 @@ sub-n c = search needs
 add-n : tie.Need-add-n
 add-n c = search needs
 
-subscribed-requires : tie.Need-subscribed-requires
-subscribed-requires c κs = search needs
-
-pending-requires : tie.Need-pending-requires
-pending-requires c κs = search needs
-
-flags-requires : tie.Need-flags-requires
-flags-requires c κs = search needs
+flags-with-requires : tie.Need-flags-with-requires
+flags-with-requires c κs = search needs
 
 add-put-cell : tie.Need-add-put-cell
 add-put-cell c = search needs
 
 put-cell-requires : tie.Need-put-cell-requires
 put-cell-requires c κs =
-    let k = c .before .before .before .before .before .before in
+    let k = c .before .before .before in
     let p = start k .pre in
     (search needs, omega arith, omega (arith, ap length (list-is k), list-short (m k) (p .0) (p .1) (p .2) (p .3)))
 
 copy-within-requires : tie.Need-copy-within-requires
 copy-within-requires c κs =
-    let k = c .before .before .before .before .before .before .before .before .before .before in
+    let k = c .before .before .before .before .before .before .before in
     let p = start k .pre in
     let h = ap length (list-is k) in
     let l = list-short (m k) (p .0) (p .1) (p .2) (p .3) in
@@ -134,7 +128,7 @@ returns c =
     let p = start k .pre in
     let g = cell (front w) in
     block-stored (m k) (p .0) (p .1) (p .2) (p .3) _ (named g) (first (front w)) (second w)
-    (g .before .before .before .before .before .subscribed .ensures) (g .before .before .before .pending .ensures) (g .before .before .flags .ensures) (d .clear-from .ensures)
+    (g .before .before .flags-with .ensures) (d .clear-from .ensures)
 
 pub store-block-spec : {M : Type 1} → statement M
 store-block-spec =
@@ -143,9 +137,7 @@ store-block-spec =
     body-requires
     sub-n
     add-n
-    subscribed-requires
-    pending-requires
-    flags-requires
+    flags-with-requires
     add-put-cell
     put-cell-requires
     copy-within-requires

@@ -13,8 +13,11 @@ row-at-requires c κs = search needs
 get16-requires : tie.Need-get16-requires
 get16-requires c κs = search needs
 
-is-pending-requires : tie.Need-is-pending-requires
-is-pending-requires c κs = search needs
+flag-limit-requires : tie.Need-flag-limit-requires
+flag-limit-requires c κs = search needs
+
+shared-slice-read-marked : tie.Need-shared-slice-read-marked
+shared-slice-read-marked c = search needs
 
 is-subscribed-requires : tie.Need-is-subscribed-requires
 is-subscribed-requires c κs = search needs
@@ -30,13 +33,13 @@ shared-slice-read-result-2 c = search needs
 
 returns : tie.Need-returns
 returns c =
-    let s = c .before .before .before .before .before .before .before .before .before in
-    let r = c .before .before .before .before .before .before .before .row-at in
+    let s = c .before .before .before .before .before .before .before .before .before .before in
+    let r = c .before .before .before .before .before .before .before .before .row-at in
     let x = rowAt (s .args .k) in
-    cell-found x (s .args .c .now)
-    (c .before .before .before .before .before .before .get16 .ensures .0)
+    cell-found (s .args .waiting) x (s .args .c .now)
+    (c .before .before .before .before .before .before .before .get16 .ensures .0)
     (name-is (r .result) x (r .ensures .0))
-    (c .before .before .before .before .is-pending .ensures)
+    (c .before .before .before .before .before .flag-limit .ensures)
     (c .before .before .before .is-subscribed .ensures)
     (c .before .before .by-port .ensures ∙ ap byPort (owner-is (r .result) x (r .ensures .0)))
 
@@ -46,7 +49,8 @@ cell-sound-spec =
     (tie.spec
     row-at-requires
     get16-requires
-    is-pending-requires
+    flag-limit-requires
+    shared-slice-read-marked
     is-subscribed-requires
     by-port-requires
     shared-slice-read-result

@@ -28,6 +28,9 @@ returns c =
     let e = c .before .size .ensures .0 ∙ ap size (c .before .before .before .cell .ensures .0) in
     sym (not-true _ (λ t. omega (arith, leb-true (size (cell (a .m .now) (a .k))) (r .most) (every-at _ 1 t), e, c .if1 .taken, c .before .before .room .ensures .1)))
 
+waiting-requires : tie.Need-waiting-requires
+waiting-requires c κs = search needs
+
 cell-sound-requires : tie.Need-cell-sound-requires
 cell-sound-requires c κs = search needs
 
@@ -46,12 +49,13 @@ value-sound-requires c κs = search needs
 returns-2 : tie.Need-returns-2
 unfolding fieldsAt
 returns-2 c =
-    let a = c .before .before .before .before .before .before .before .before .args in
-    let n = c .before .before .before .before .size in
-    let s = c .before .before .before .before .before .room in
-    let k = c .before .before .before .before .before .before .cell in
-    rw (c .before .before .cell-sound .ensures, c .value-sound .ensures, sym (k .ensures .0), sym (s .ensures .0))
-    (fields-tests (rowAt (a .k)) (k .result .now) (s .result .now) (n .result) (n .ensures .0) (c .before .before .before .if1 .left) (s .ensures .1))
+    let a = c .before .before .before .before .before .before .before .before .before .args in
+    let n = c .before .before .before .before .before .size in
+    let s = c .before .before .before .before .before .before .room in
+    let k = c .before .before .before .before .before .before .before .cell in
+    let w = c .before .before .before .waiting in
+    rw (c .before .before .cell-sound .ensures, c .value-sound .ensures, sym (k .ensures .0), sym (s .ensures .0), sym (w .ensures))
+    (fields-tests (w .result) (rowAt (a .k)) (k .result .now) (s .result .now) (n .result) (n .ensures .0) (c .before .before .before .before .if1 .left) (s .ensures .1))
 
 pub fields-at-spec : {M : Type 1} → statement M
 fields-at-spec =
@@ -61,6 +65,7 @@ fields-at-spec =
     room-requires
     size-requires
     returns
+    waiting-requires
     cell-sound-requires
     sub-value-sound
     part-value-sound-start
