@@ -156,7 +156,7 @@ fn turned_back(cells: &[u8]) -> Vec<u8> {
     let mut cells = cells.to_vec();
     for flags in cells.iter_mut().skip(2).step_by(6) {
         if *flags & 8 == 8 {
-            *flags = *flags - 8 | 4;
+            *flags = (*flags - 8) | 4;
         }
     }
     cells
