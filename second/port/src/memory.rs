@@ -194,12 +194,12 @@ impl Entry {
         self.flags & PRESENT != 0
     }
 
-    /// All that can be told of an entry without its body.
-    fn is_sound(&self, parameter: &Parameter) -> bool {
+    /// All that can be told of an entry without its body, if these are the flags that there are.
+    fn is_sound(&self, parameter: &Parameter, flags: u8) -> bool {
         let change_allowed = self.flags & SUBSCRIBED != 0 && parameter.set_by == SetBy::Port;
         self.name == parameter.name
             && self.zero == 0
-            && self.flags & !(PRESENT | SUBSCRIBED | PENDING | IN_FLIGHT) == 0
+            && self.flags & !flags == 0
             && (self.flags & (PENDING | IN_FLIGHT) == 0 || change_allowed)
             && (self.is_present() || self.length == 0)
     }
@@ -207,13 +207,12 @@ impl Entry {
 
 fn is_sound(octets: &[u8; SIZE]) -> bool {
     let mut present = [false; COUNT];
-    // The flags of all entries together: whether one may be in flight depends on the timer alone.
-    let mut joined = 0;
+    let flags = known_flags(octets[TIMER]);
     // Absent rooms and the tails of values join up, so one look covers all between two values.
     let mut value_end = BODIES;
     for (index, parameter) in TABLE.iter().enumerate() {
         let entry = Entry::of(octets, index);
-        if !entry.is_sound(parameter) {
+        if !entry.is_sound(parameter, flags) {
             return false;
         }
         if entry.is_present() {
@@ -227,18 +226,25 @@ fn is_sound(octets: &[u8; SIZE]) -> bool {
             value_end = start + entry.length;
         }
         present[index] = entry.is_present();
-        joined |= entry.flags;
     }
     is_zero(&octets[value_end..])
         && present[GATE_ENABLED]
         && present[LIST_MAX]
         && (!present[COMMIT] || PARTS.iter().all(|&part| present[part]))
-        && is_timer(octets[TIMER], octets[EXPIRIES], joined & IN_FLIGHT != 0)
+        && is_timer(octets[TIMER], octets[EXPIRIES])
 }
 
-fn is_timer(state: u8, expiries: u8, in_flight: bool) -> bool {
+/// The flags that there are: while idle nothing is in flight.
+fn known_flags(state: u8) -> u8 {
     match state {
-        IDLE => expiries == 0 && !in_flight,
+        WAITING => PRESENT | SUBSCRIBED | PENDING | IN_FLIGHT,
+        _ => PRESENT | SUBSCRIBED | PENDING,
+    }
+}
+
+fn is_timer(state: u8, expiries: u8) -> bool {
+    match state {
+        IDLE => expiries == 0,
         WAITING => expiries <= RESENDS,
         _ => false,
     }
