@@ -4,7 +4,7 @@
 //! so that nothing is copied before the reply is known to fit.
 
 use crate::block::Block;
-use crate::memory::{Port, PENDING, SUBSCRIBED};
+use crate::memory::{Port, IN_FLIGHT, PENDING, SUBSCRIBED};
 use crate::operation::Operation;
 use crate::reply::{Cause, Outcome, Record};
 use crate::table::{self, SetBy, COMMIT, COUNT, PARTS, TABLE};
@@ -77,7 +77,7 @@ impl<'m> Draft<'m> {
     fn store_marks(&self, port: &mut Port, index: usize) {
         let mut flags = port.flags(index);
         if self.cleared >> index & 1 != 0 {
-            flags &= !(SUBSCRIBED | PENDING);
+            flags &= !(SUBSCRIBED | PENDING | IN_FLIGHT);
         }
         if self.subscribed >> index & 1 != 0 {
             flags |= SUBSCRIBED;

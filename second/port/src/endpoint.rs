@@ -167,7 +167,7 @@ fn acknowledgement(port: &mut Port, room: &mut [u8]) -> Result<usize, Number> {
     }
     let first = room.first_mut().ok_or(Number::ReplyTooLong)?;
     *first = NOTIFY_COMPLETE;
-    port.rest();
+    port.acknowledge();
     Ok(1)
 }
 
@@ -218,9 +218,6 @@ fn build_result(memory: &mut [u8], room: &mut [u8]) -> Result<usize, Number> {
     }
     let mut writer = Writer::notification(room, &measure);
     pending_status(&port).for_each(|outcome| writer.add(&outcome));
-    for index in 0..COUNT {
-        port.set_flags(index, port.flags(index) & !PENDING);
-    }
     port.wait();
     Ok(measure.notification_length())
 }

@@ -26,5 +26,5 @@ pub use endpoint::{
     build_notification, make_fresh, take_expiry, take_local_value, take_message, Answer, Number,
 };
 pub use gates::{gates, Gates};
-pub use memory::{value_in, FRESH, PENDING, PRESENT, SUBSCRIBED};
+pub use memory::{value_in, FRESH, IN_FLIGHT, PENDING, PRESENT, SUBSCRIBED};
 pub use reply::Cause;

@@ -11,6 +11,8 @@ pub const PRESENT: u8 = 1;
 pub const SUBSCRIBED: u8 = 2;
 /// Flag of an entry with a change that is not reported yet.
 pub const PENDING: u8 = 4;
+/// Flag of an entry with a change whose notification nobody has acknowledged yet.
+pub const IN_FLIGHT: u8 = 8;
 
 const IDLE: u8 = 0;
 const WAITING: u8 = 1;
@@ -39,7 +41,7 @@ pub static FRESH: [u8; SIZE] = {
 pub enum Expiry {
     /// The notification is to be sent again.
     SendAgain,
-    /// The fifth expiry: nothing is waited for any more.
+    /// The fifth expiry: nothing is waited for any more, and what was in flight has still to be told.
     GivenUp,
 }
 
@@ -103,16 +105,16 @@ impl<'a> Port<'a> {
         self.octets[TIMER] == WAITING
     }
 
-    /// Starts waiting, with no expiry so far.
+    /// Starts waiting, with no expiry so far: what was pending is in flight.
     pub fn wait(&mut self) {
+        self.turn(PENDING, IN_FLIGHT);
         self.octets[TIMER] = WAITING;
         self.octets[EXPIRIES] = 0;
     }
 
-    /// Becomes idle.
-    pub fn rest(&mut self) {
-        self.octets[TIMER] = IDLE;
-        self.octets[EXPIRIES] = 0;
+    /// Ends waiting: what was in flight is told.
+    pub fn acknowledge(&mut self) {
+        self.rest(0);
     }
 
     /// Counts an expiry while waiting.
@@ -121,8 +123,25 @@ impl<'a> Port<'a> {
             self.octets[EXPIRIES] += 1;
             Expiry::SendAgain
         } else {
-            self.rest();
+            self.rest(PENDING);
             Expiry::GivenUp
+        }
+    }
+
+    /// Becomes idle: what was in flight has the mark given here, if any.
+    fn rest(&mut self, left: u8) {
+        self.turn(IN_FLIGHT, left);
+        self.octets[TIMER] = IDLE;
+        self.octets[EXPIRIES] = 0;
+    }
+
+    /// Turns a flag into another, or into none, in each entry that has it; all other flags stay.
+    fn turn(&mut self, flag: u8, into: u8) {
+        for index in 0..COUNT {
+            let flags = self.flags(index);
+            if flags & flag != 0 {
+                self.set_flags(index, flags & !flag | into);
+            }
         }
     }
 
@@ -175,24 +194,25 @@ impl Entry {
         self.flags & PRESENT != 0
     }
 
-    /// All that can be told of an entry without its body.
-    fn is_sound(&self, parameter: &Parameter) -> bool {
-        let pending_allowed = self.flags & SUBSCRIBED != 0 && parameter.set_by == SetBy::Port;
+    /// All that can be told of an entry without its body, if these are the flags that there are.
+    fn is_sound(&self, parameter: &Parameter, flags: u8) -> bool {
+        let change_allowed = self.flags & SUBSCRIBED != 0 && parameter.set_by == SetBy::Port;
         self.name == parameter.name
             && self.zero == 0
-            && self.flags & !(PRESENT | SUBSCRIBED | PENDING) == 0
-            && (self.flags & PENDING == 0 || pending_allowed)
+            && self.flags & !flags == 0
+            && (self.flags & (PENDING | IN_FLIGHT) == 0 || change_allowed)
             && (self.is_present() || self.length == 0)
     }
 }
 
 fn is_sound(octets: &[u8; SIZE]) -> bool {
     let mut present = [false; COUNT];
+    let flags = known_flags(octets[TIMER]);
     // Absent rooms and the tails of values join up, so one look covers all between two values.
     let mut value_end = BODIES;
     for (index, parameter) in TABLE.iter().enumerate() {
         let entry = Entry::of(octets, index);
-        if !entry.is_sound(parameter) {
+        if !entry.is_sound(parameter, flags) {
             return false;
         }
         if entry.is_present() {
@@ -212,6 +232,14 @@ fn is_sound(octets: &[u8; SIZE]) -> bool {
         && present[LIST_MAX]
         && (!present[COMMIT] || PARTS.iter().all(|&part| present[part]))
         && is_timer(octets[TIMER], octets[EXPIRIES])
+}
+
+/// The flags that there are: while idle nothing is in flight.
+fn known_flags(state: u8) -> u8 {
+    match state {
+        WAITING => PRESENT | SUBSCRIBED | PENDING | IN_FLIGHT,
+        _ => PRESENT | SUBSCRIBED | PENDING,
+    }
 }
 
 fn is_timer(state: u8, expiries: u8) -> bool {

@@ -1,7 +1,7 @@
 //! A command that is carried out may be cut into commands sent in order: each is carried out,
 //! memory ends up the same to the octet, and the records are those of the partial replies joined.
 
-use crate::soundness::full;
+use crate::soundness::{full, waiting};
 use kit::{command, list, read, schedule, set, sets, subscribe, unsubscribe, valued};
 use kit::{Bench, Chance, Reply};
 
@@ -71,10 +71,10 @@ fn random_cuts(chance: &mut Chance, operations: &[Vec<u8>]) -> Vec<Vec<u8>> {
     commands
 }
 
-fn starts() -> [Bench; 3] {
+fn starts() -> [Bench; 4] {
     let mut committed = Bench::fresh();
     committed.done(&sets(&schedule(40, 5, [1, 1_000])));
-    [Bench::fresh(), committed, full()]
+    [Bench::fresh(), committed, full(), waiting()]
 }
 
 #[test]

@@ -5,6 +5,8 @@ mod cut_law;
 mod examples;
 mod gates;
 mod gates_model;
+mod in_flight;
+mod in_flight_model;
 mod no_panic;
 mod not_served;
 mod numbers;

@@ -1,6 +1,6 @@
 //! No call panics, and no refusal changes a lent octet, on random messages and memories.
 
-use crate::soundness::full;
+use crate::soundness::{full, waiting};
 use kit::{command, schedule, sets, valued, Bench, Chance};
 
 /// Rounds of each test below; together they pass a hundred thousand.
@@ -42,7 +42,7 @@ fn random_messages_on_sound_memory() {
     let mut bench = Bench::fresh();
     for round in 0..ROUNDS {
         if round % 1_000 == 0 {
-            bench = [Bench::fresh(), full()][chance.below(2)].clone();
+            bench = [Bench::fresh(), full(), waiting()][chance.below(3)].clone();
         }
         let message = random_message(&mut chance);
         call_all(&mut bench, &mut chance, &message);
@@ -52,14 +52,14 @@ fn random_messages_on_sound_memory() {
 #[test]
 fn damaged_commands_on_damaged_memory() {
     let mut chance = Chance::new(12);
-    let starts = [Bench::fresh(), full()];
+    let starts = [Bench::fresh(), full(), waiting()];
     let not_served: Vec<u8> = [6, 7, 8, 9]
         .iter()
         .flat_map(|code| valued(*code, 0x0006, &[*code; 9]))
         .collect();
     let good = command(&[sets(&schedule(9, 10, [1, 1_000])), not_served].concat());
     for _ in 0..ROUNDS {
-        let mut bench = starts[chance.below(2)].clone();
+        let mut bench = starts[chance.below(3)].clone();
         let mut message = good.clone();
         for _ in 0..chance.below(4) {
             let at = chance.below(message.len());
@@ -69,7 +69,7 @@ fn damaged_commands_on_damaged_memory() {
         for _ in 0..chance.below(4) {
             let places = [116, bench.memory.len()][chance.below(2)];
             let at = chance.below(places);
-            bench.memory[at] = [chance.octet(), chance.below(8) as u8][chance.below(2)];
+            bench.memory[at] = [chance.octet(), chance.below(16) as u8][chance.below(2)];
         }
         call_all(&mut bench, &mut chance, &message);
     }

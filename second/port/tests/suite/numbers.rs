@@ -260,10 +260,14 @@ fn numbers_20_send_again_and_21_given_up() {
     }
     assert_eq!(bench.expire(), 21);
     assert_eq!(bench.memory[114..116], [0, 0]);
-    // The reported change is dropped.
+    // Beside the timer only the mark of what was in flight has changed: it is pending again.
+    let flags = 6 * 17 + 2;
+    assert_eq!([expected[flags], bench.memory[flags]], [11, 7]);
+    assert_eq!(bench.memory[..flags], expected[..flags]);
+    assert_eq!(bench.memory[flags + 1..114], expected[flags + 1..114]);
+    assert_eq!(bench.memory[116..], expected[116..]);
     assert_eq!(bench.expire(), 8);
-    assert_eq!(bench.build().0, 9);
-    assert_eq!(bench.memory[..114], expected[..114]);
+    assert_eq!(bench.build(), (0, hex("03 0008 01 00A4 0002 0078 00")));
 }
 
 #[test]

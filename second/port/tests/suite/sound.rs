@@ -65,11 +65,14 @@ fn entry_is_sound(memory: &[u8], place: usize) -> bool {
         entry[2],
         usize::from(entry[4]) * 256 + usize::from(entry[5]),
     );
-    let (present, subscribed, pending) = (flags & 1 == 1, flags & 2 == 2, flags & 4 == 4);
-    if [entry[0], entry[1]] != name.to_be_bytes() || entry[3] != 0 || flags >= 8 {
+    let [present, subscribed, pending, in_flight] = [1, 2, 4, 8].map(|bit| flags & bit == bit);
+    if [entry[0], entry[1]] != name.to_be_bytes() || entry[3] != 0 || flags >= 16 {
         return false;
     }
-    if pending && !(subscribed && setter == Port) || !present && length != 0 || length > size {
+    if (pending || in_flight) && !(subscribed && setter == Port) {
+        return false;
+    }
+    if in_flight && memory[114] != 1 || !present && length != 0 || length > size {
         return false;
     }
     let (start, _) = room(place);

@@ -32,6 +32,24 @@ pub fn full() -> Bench {
     bench
 }
 
+/// The same while a notification waits: two names are in flight, one in flight and pending, and one
+/// that is absent is in flight.
+pub fn waiting() -> Bench {
+    let mut bench = full();
+    bench.done(&subscribe(0x00A3));
+    assert_eq!(bench.local(0x00A3, &[]), 0);
+    assert_eq!(bench.build().0, 0);
+    assert_eq!(bench.local(0x00A1, &[4; 9]), 0);
+    let flags = [0x0001, 0x00A1, 0x00A3, 0x00A4].map(|name| bench.memory[6 * place(name) + 2]);
+    assert_eq!(flags, [11, 15, 10, 11]);
+    bench
+}
+
+/// Fresh, full, and while waiting.
+pub fn memories() -> [Vec<u8>; 3] {
+    [Bench::fresh().memory, full().memory, waiting().memory]
+}
+
 fn agree(memory: &[u8]) -> bool {
     let told = Bench::of(memory.to_vec()).is_sound();
     assert_eq!(told, sound::is_sound(memory));
@@ -62,15 +80,14 @@ fn remove(memory: &mut [u8], name: u16) {
 
 #[test]
 fn full_and_fresh_memory_are_sound() {
-    assert!(agree(&full().memory));
-    assert!(agree(&Bench::fresh().memory));
+    assert!(memories().iter().all(|memory| agree(memory)));
     assert!(!agree(&[0; 2_100]));
     assert!(!agree(&[]));
 }
 
 #[test]
 fn names_zero_octets_and_lengths() {
-    for memory in [full().memory, Bench::fresh().memory] {
+    for memory in memories() {
         for entry in (0..114).step_by(6) {
             for octet in [0, 1, 3, 4, 5] {
                 for bit in 0..8 {
@@ -88,19 +105,89 @@ fn names_zero_octets_and_lengths() {
 
 #[test]
 fn every_value_of_every_flag_octet() {
-    for memory in [full().memory, Bench::fresh().memory] {
+    for memory in memories() {
         for entry in (0..114).step_by(6) {
             for flags in 0..=255 {
                 let sound = changed(&memory, |m| m[entry + 2] = flags);
-                assert!(!sound || flags < 8);
+                assert!(!sound || flags < 16);
+                // With pending or in flight only beside subscribed.
+                assert!(!sound || flags < 4 || flags & 2 == 2);
+            }
+        }
+    }
+}
+
+/// The places of what the port sets.
+const OWN: [usize; 7] = [0, 6, 13, 14, 15, 16, 17];
+
+#[test]
+fn in_flight_stands_only_where_it_may() {
+    let memory = full().memory;
+    for place in 0..19 {
+        for marks in 0..16 {
+            for timer in [[0, 0], [1, 0], [1, 4]] {
+                let sound = changed(&memory, |m| {
+                    m[6 * place + 2] = 1 | marks << 1;
+                    m[114..116].copy_from_slice(&timer);
+                });
+                let subscribed = marks & 1 == 1;
+                let told = marks & 6 != 0;
+                let in_flight = marks & 4 != 0;
+                let expected = marks < 8
+                    && (!told || subscribed && OWN.contains(&place))
+                    && (!in_flight || timer[0] == 1);
+                assert_eq!(sound, expected, "{place} {marks:04b} {timer:?}");
             }
         }
     }
 }
 
 #[test]
+fn an_absent_name_may_be_in_flight() {
+    for place in OWN {
+        for (flags, timer, expected) in [
+            (10, [1, 0], true),
+            (14, [1, 4], true),
+            (10, [0, 0], false),
+            (14, [0, 0], false),
+            (8, [1, 0], false),
+            (12, [1, 0], false),
+            (26, [1, 0], false),
+        ] {
+            let sound = changed(&Bench::fresh().memory, |m| {
+                m[6 * place + 2] = flags;
+                m[114..116].copy_from_slice(&timer);
+            });
+            assert_eq!(sound, expected, "{place} {flags} {timer:?}");
+        }
+    }
+}
+
+#[test]
+fn nothing_is_in_flight_while_idle() {
+    let memory = waiting().memory;
+    assert!(changed(&memory, |m| m[115] = 4));
+    assert!(!changed(&memory, |m| m[114] = 0));
+    let idle = |places: &[usize]| {
+        changed(&memory, |m| {
+            m[114] = 0;
+            places.iter().for_each(|place| m[6 * place + 2] &= !8);
+        })
+    };
+    let in_flight = [0x0001, 0x00A1, 0x00A3, 0x00A4].map(place);
+    assert!(idle(&in_flight));
+    for left in 0..in_flight.len() {
+        let others: Vec<usize> = (0..4)
+            .filter(|n| *n != left)
+            .map(|n| in_flight[n])
+            .collect();
+        assert!(!idle(&others), "{left} alone is in flight");
+    }
+}
+
+#[test]
 fn every_octet_changed_by_itself() {
-    for memory in [full().memory, Bench::fresh().memory] {
+    for memory in memories() {
         for at in 0..memory.len() {
             for change in [1, 0x80, 0xFF] {
                 changed(&memory, |m| m[at] ^= change);
@@ -121,14 +208,13 @@ fn zero_tails() {
 
 #[test]
 fn timer_octets() {
-    let memory = full().memory;
-    for state in 0..=255 {
-        for expiries in 0..=255 {
-            let sound = changed(&memory, |m| m[114..116].copy_from_slice(&[state, expiries]));
-            assert_eq!(
-                sound,
-                (state, expiries) == (0, 0) || state == 1 && expiries <= 4
-            );
+    for (memory, may_be_idle) in [(full().memory, true), (waiting().memory, false)] {
+        for state in 0..=255 {
+            for expiries in 0..=255 {
+                let sound = changed(&memory, |m| m[114..116].copy_from_slice(&[state, expiries]));
+                let idle = may_be_idle && (state, expiries) == (0, 0);
+                assert_eq!(sound, idle || state == 1 && expiries <= 4);
+            }
         }
     }
 }
@@ -211,14 +297,14 @@ fn running_blocks() {
 #[test]
 fn random_changes() {
     let mut chance = Chance::new(7);
-    let starts = [full().memory, Bench::fresh().memory];
+    let starts = memories();
     let mut sound = 0;
     for _ in 0..60_000 {
-        let mut memory = starts[chance.below(2)].clone();
+        let mut memory = starts[chance.below(3)].clone();
         for _ in 0..=chance.below(3) {
             let places = [116, 2_100][chance.below(2)];
             let at = chance.below(places);
-            memory[at] = [chance.octet(), chance.below(8) as u8][chance.below(2)];
+            memory[at] = [chance.octet(), chance.below(16) as u8][chance.below(2)];
         }
         sound += usize::from(agree(&memory));
     }

@@ -25,6 +25,7 @@ fn only_a_difference_marks_pending() {
     assert_eq!(bench.local(TTL, &[0, 1]), 0);
     assert_eq!(flags(&bench, TTL_PLACE), 7);
     assert_eq!(bench.build().0, 0);
+    assert_eq!(bench.send(&[4]).0, 0);
     assert_eq!(flags(&bench, TTL_PLACE), 3);
     assert_eq!(bench.local(TTL, &[0, 1]), 0);
     assert_eq!(flags(&bench, TTL_PLACE), 3);
@@ -42,7 +43,7 @@ fn a_reported_value_made_absent_is_marked_again() {
     assert_eq!(bench.local(TTL, &[]), 0);
     assert_eq!(flags(&bench, TTL_PLACE), 6);
     assert_eq!(bench.build(), (0, hex("03 0005 00 01 00A4 03")));
-    assert_eq!(flags(&bench, TTL_PLACE), 2);
+    assert_eq!(flags(&bench, TTL_PLACE), 10);
     assert!(bench.is_sound());
 }
 
@@ -123,7 +124,7 @@ fn every_listed_name_can_be_subscribed_to() {
         .collect();
     for (place, name) in names.into_iter().enumerate() {
         bench.done(&subscribe(name));
-        assert_eq!(flags(&bench, place) & 6, 2);
+        assert_eq!(flags(&bench, place) & 14, 2);
         assert!(bench.is_sound());
     }
 }

@@ -4,7 +4,7 @@ use port::table::{
     SetBy, BODIES, COMMIT, COUNT, ENTRY, EXPIRIES, GATE_ENABLED, LIST_MAX, PARTS, SIZE, TABLE,
     TIMER,
 };
-use port::{value_in, PENDING, PRESENT, SUBSCRIBED};
+use port::{value_in, IN_FLIGHT, PENDING, PRESENT, SUBSCRIBED};
 use programs::rig::MOST_LENT;
 
 use super::dice::Dice;
@@ -13,13 +13,13 @@ use super::{gated, schedules, values};
 /// Sound memory with some change, after which it mostly is not sound.
 pub fn changed(dice: &mut Dice, sound: &[u8]) -> Vec<u8> {
     let mut memory = sound.to_vec();
-    match dice.below(16) {
+    match dice.below(18) {
         0..=4 => change_octets(dice, sound, &mut memory),
         5 => change_length(dice, &mut memory),
         6..=8 => change_value(dice, &mut memory),
         9 => remove_value(dice, &mut memory),
-        10..=11 => change_flags(dice, &mut memory),
-        12..=13 => change_block(dice, &mut memory),
+        10..=12 => change_flags(dice, &mut memory),
+        13..=14 => change_block(dice, &mut memory),
         _ => change_marks(dice, &mut memory),
     }
     memory
@@ -122,14 +122,23 @@ fn remove_value(dice: &mut Dice, memory: &mut [u8]) {
     install(memory, index, None);
 }
 
+/// Flags that mostly may not stand. What is in flight is often so while waiting, where only its other
+/// flags and its name can be wrong.
 fn change_flags(dice: &mut Dice, memory: &mut [u8]) {
-    let flags = &mut memory[dice.below(COUNT) * ENTRY + 2];
-    *flags = match dice.below(4) {
+    let any = dice.below(COUNT);
+    let own = values::place(dice, SetBy::Port);
+    let flags = &mut memory[dice.pick(&[any, any, any, own, own, LIST_MAX]) * ENTRY + 2];
+    *flags = match dice.below(9) {
         0 => *flags ^ PRESENT,
-        1 => *flags | dice.pick(&[8, 16, 32, 64, 128]),
-        2 => *flags | SUBSCRIBED | PENDING,
-        _ => *flags & PRESENT | PENDING,
+        1..=2 => *flags | dice.pick(&[16, 32, 64, 128]),
+        3 => *flags | SUBSCRIBED | PENDING,
+        4 => *flags & PRESENT | PENDING,
+        5..=6 => *flags | SUBSCRIBED | IN_FLIGHT,
+        _ => *flags & PRESENT | IN_FLIGHT | dice.pick(&[0, PENDING]),
     };
+    if *flags & IN_FLIGHT != 0 && !dice.one_in(3) {
+        memory[TIMER] = 1;
+    }
 }
 
 /// Lets a block run that may lack form, fit, or the presence of a value it was made of.
@@ -150,19 +159,28 @@ fn change_block(dice: &mut Dice, memory: &mut [u8]) {
     }
 }
 
-/// Sound marks on names set by the port, and a timer that may be out of its range.
+/// Sound marks on names set by the port, and a timer that may be out of its range. While idle what is
+/// in flight is not sound, and so it seldom is.
 fn change_marks(dice: &mut Dice, memory: &mut [u8]) {
-    for (index, parameter) in TABLE.iter().enumerate() {
-        let flags = &mut memory[index * ENTRY + 2];
-        let marks = match parameter.set_by {
-            SetBy::Port => dice.pick(&[0, SUBSCRIBED, SUBSCRIBED | PENDING]),
-            SetBy::Controller | SetBy::Nobody => dice.pick(&[0, SUBSCRIBED]),
-        };
-        *flags = *flags & PRESENT | marks;
-    }
     if dice.one_in(2) {
         memory[TIMER] = dice.pick(&[0, 1, 1, 1, 2]);
         memory[EXPIRIES] = dice.pick(&[0, 1, 2, 3, 4, 4, 5]);
+    }
+    let in_flight = if memory[TIMER] == 1 || dice.one_in(6) {
+        IN_FLIGHT
+    } else {
+        0
+    };
+    for (index, parameter) in TABLE.iter().enumerate() {
+        let flags = &mut memory[index * ENTRY + 2];
+        let marks = match parameter.set_by {
+            SetBy::Port => {
+                let changes = dice.pick(&[0, PENDING, in_flight, PENDING | in_flight]);
+                dice.pick(&[0, SUBSCRIBED | changes, SUBSCRIBED | changes])
+            }
+            SetBy::Controller | SetBy::Nobody => dice.pick(&[0, SUBSCRIBED]),
+        };
+        *flags = *flags & PRESENT | marks;
     }
 }
 

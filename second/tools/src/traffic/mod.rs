@@ -10,6 +10,7 @@ pub mod dice;
 mod edges;
 mod frames;
 mod gated;
+mod in_flight;
 pub mod measured;
 mod memories;
 pub mod not_served;

@@ -11,7 +11,7 @@ use super::dice::Dice;
 use super::gated::{self, Running};
 use super::operations::Operations;
 use super::pieces::{self, is_cut, shorten};
-use super::{breaks, commands, memories, schedules, values};
+use super::{breaks, commands, in_flight, memories, schedules, values};
 
 /// A room that is large enough for every reply.
 const AMPLE: usize = 4_096;
@@ -22,7 +22,7 @@ const LEAST_NOTIFICATION_ROOM: usize = 1_600;
 /// One message in so many is a command that breaks, beside those among all other messages.
 const BREAKS: usize = 9;
 /// One scene in so many asks which gates are open, beside what is asked in all others.
-const GATES: usize = 11;
+const GATES: usize = 10;
 /// Nanoseconds around the edges of the delay conversion.
 const DELAYS: [u64; 8] = [
     0,
@@ -38,7 +38,7 @@ const DELAYS: [u64; 8] = [
 /// How often a script does what makes it long.
 #[derive(Clone, Copy)]
 pub struct Pace {
-    /// Kinds of scenes to choose from. Those from 22 on lend memory or make it fresh.
+    /// Kinds of scenes to choose from. Those from 21 on lend memory or make it fresh.
     scenes: usize,
     /// Memory is shown after one call in so many.
     memory: usize,
@@ -51,7 +51,7 @@ pub struct Pace {
 
 /// Lends and shows as often as calls are made.
 pub const OFTEN: Pace = Pace {
-    scenes: 26,
+    scenes: 25,
     memory: 3,
     room: 3,
     ample: 2,
@@ -59,7 +59,7 @@ pub const OFTEN: Pace = Pace {
 
 /// Makes more calls than it lends and shows, and shows memory more often than rooms.
 pub const SELDOM: Pace = Pace {
-    scenes: 23,
+    scenes: 22,
     memory: 5,
     room: 36,
     ample: 3,
@@ -109,11 +109,11 @@ impl<W: Write> Script<'_, W> {
         match self.dice.below(self.pace.scenes) {
             0..=12 => self.message(),
             13..=14 => self.local_value(),
-            15..=18 => self.report(),
-            19 => self.build(),
-            20 => self.expiry(),
-            21 => self.delay(),
-            22..=24 => self.change_memory(),
+            15..=17 => self.report(),
+            18 => self.build(),
+            19 => self.expiry(),
+            20 => self.delay(),
+            21..=23 => self.change_memory(),
             _ if self.dice.one_in(4) => self.instruction(code::MAKE_FRESH, &[]),
             _ => self.change_memory(),
         }
@@ -125,13 +125,15 @@ impl<W: Write> Script<'_, W> {
             let running = Running::of(&self.rig.memory);
             return self.ask(running.as_ref().or(before));
         }
-        match self.dice.below(8) {
+        match self.dice.below(12) {
             0..=2 => {
                 let message = drawn(self.dice, &FRESH);
                 self.send(&message)
             }
             3..=4 => self.local_value(),
             5..=6 => self.build(),
+            7 => self.acknowledge(),
+            8..=9 => self.meanwhile(),
             _ => self.expiry(),
         }
     }
@@ -189,7 +191,8 @@ impl<W: Write> Script<'_, W> {
         self.show()
     }
 
-    /// Subscriptions, local changes, a notification, and expiries or an acknowledgement.
+    /// Subscriptions, local changes, a notification, what comes while it is out, expiries or an
+    /// acknowledgement, and often the notification of what is pending then.
     fn report(&mut self) -> io::Result<()> {
         if self.dice.one_in(2) {
             let message = commands::subscriptions(self.dice);
@@ -199,16 +202,48 @@ impl<W: Write> Script<'_, W> {
             self.local_value()?;
         }
         self.build()?;
-        let mut expiries = self.dice.pick(&[0, 0, 1, 2, 4, 5, 6]);
+        self.meanwhile()?;
+        let mut expiries = self.dice.pick(&[0, 0, 1, 2, 4, 5, 5, 6]);
         while expiries > 0 && (self.is_waiting() || self.dice.one_in(8)) {
+            if self.dice.one_in(5) {
+                self.meanwhile()?;
+            }
             self.expiry()?;
             expiries -= 1;
         }
         if self.is_waiting() && self.dice.one_in(2) {
-            let message = commands::acknowledgement(self.dice);
-            self.send(&message)?;
+            self.acknowledge()?;
+        }
+        if !self.is_waiting() && self.dice.one_in(3) {
+            self.build()?;
         }
         Ok(())
+    }
+
+    fn acknowledge(&mut self) -> io::Result<()> {
+        let message = commands::acknowledgement(self.dice);
+        self.send(&message)
+    }
+
+    /// What comes while a notification is out, if one is: changes of what it tells, and commands.
+    fn meanwhile(&mut self) -> io::Result<()> {
+        let Some(place) = in_flight::place(self.dice, &self.rig.memory) else {
+            return Ok(());
+        };
+        match self.dice.below(5) {
+            0..=1 => {
+                let value = in_flight::value(self.dice, &self.rig.memory, place);
+                let body = [&TABLE[place].name.to_be_bytes(), value.as_slice()].concat();
+                self.instruction(code::LOCAL_VALUE, &body)?;
+                self.show()
+            }
+            2 => {
+                let message = in_flight::command(self.dice, &self.rig.memory, place);
+                self.send(&message)
+            }
+            3 => self.local_value(),
+            _ => Ok(()),
+        }
     }
 
     fn is_waiting(&self) -> bool {

@@ -5,6 +5,7 @@ mod captured_lines;
 mod compare;
 mod gate;
 mod gates_streams;
+mod in_flight_streams;
 mod limits;
 mod measure;
 mod measured_rigs;

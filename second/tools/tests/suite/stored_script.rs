@@ -13,8 +13,8 @@ use crate::stored::assert_prints;
 use crate::traffic::{pieces, play};
 
 /// What the part by chance follows from, and its instructions.
-const SEED: u64 = 102_631;
-const RECORDS: u64 = 2_900;
+const SEED: u64 = 747;
+const RECORDS: u64 = 2_800;
 
 /// The part at the edges, which stands in front.
 fn edges() -> Vec<u8> {
@@ -96,8 +96,8 @@ fn the_second_rig_prints_the_stored_lines() {
 fn the_stored_script_has_the_edges_and_follows_from_its_seed() {
     let script = stored("rig", "stdin");
     assert!(script == [edges(), stream(Kind::Calls, SEED, RECORDS)].concat());
-    assert!(script.len() < 1_110_000);
-    assert!(stored("rig", "stdout").len() < 3_000_000);
+    assert!(script.len() < 1_250_000);
+    assert!(stored("rig", "stdout").len() < 3_400_000);
 }
 
 #[test]

@@ -349,8 +349,8 @@ fn streams_follow_from_their_seed_alone() {
         (Kind::Frames, 0xCFAD_BA21_4B8D_1C8B),
         (measured("mixed"), 0x8F2D_1544_4C08_A106),
         (measured("empty"), 0xD944_AA8A_A327_8099),
-        (Kind::Script, 0xB84E_A66C_8E03_461D),
-        (Kind::Calls, 0xB4C2_F97A_39AD_3675),
+        (Kind::Script, 0x4287_914E_DC55_6B5F),
+        (Kind::Calls, 0x19B7_09C6_9EE8_DB2E),
         (Kind::Captures, 0x3354_5649_7394_441E),
     ] {
         let [first, second] = [1, 2].map(|seed| stream(kind, seed, 1_000));

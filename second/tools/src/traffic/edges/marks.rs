@@ -5,7 +5,7 @@ use port::table::{SetBy, TABLE};
 use super::script::Edges;
 
 /// The names that the port sets, each with two values that its rule permits.
-const OWN: [(u16, [&[u8]; 2]); 7] = [
+pub const OWN: [(u16, [&[u8]; 2]); 7] = [
     (0x0001, [&[1; 8], &[2; 8]]),
     (0x0008, [&[1; 4], &[2; 4]]),
     (0x00A0, [&[1], &[2]]),

@@ -5,6 +5,7 @@
 
 mod calls;
 mod gates;
+mod in_flight;
 mod marks;
 mod memories;
 mod not_served;
@@ -25,6 +26,7 @@ pub fn write<W: Write>(count: u64, sink: &mut W) -> io::Result<()> {
     values::add(&mut edges);
     schedules::add(&mut edges);
     marks::add(&mut edges);
+    in_flight::add(&mut edges);
     calls::add(&mut edges);
     positions::add(&mut edges);
     not_served::add(&mut edges);
