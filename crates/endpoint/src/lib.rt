@@ -10,7 +10,8 @@
 //   build         when there may be something to report; a room of 1,600 octets always serves. What it writes is to be
 //                 sent and kept, and the host starts its timer
 //   expiry        when that timer runs out: SendAgain has the kept octets sent again and the timer started anew, GivenUp
-//                 drops them. An acknowledgement that `message` answers with the reply 05 stops the timer
+//                 drops them, and the next build tells again what they told. An acknowledgement that `message` answers
+//                 with the reply 05 stops the timer
 //   delay_octets  a delay in nanoseconds as the value that `local_value` takes for it
 //
 // The five calls answer in one way, by an `Outcome`: done, with the length of what now stands at the room's start, or why
