@@ -1,23 +1,22 @@
 -- What is in flight, octet by octet: what a build, an acknowledgement and the fifth expiry leave of every octet of memory (RULES 14.6, 14.10, 14.11,
 -- 15.26), and that nothing is in flight while idle (RULES 5.17).
-use Prim.Native.Nat.{ℕ, suc, _+_, _*_, _/_, _%_, _≤_, _<_}
+use Prim.Native.Nat.{ℕ, _+_, _*_, _/_, _%_, _<_}
 use native.Mathlib.Omega.{arith}
 use mathlib.Core.Path.{_≡_, refl, sym, ap, _∙_}
 use mathlib.Core.Logic.{_≢_}
-use mathlib.Core.Bool.{Bool, true, false, _&&_, _||_, not, cond, false≢true}
+use mathlib.Core.Bool.{Bool, true, false, _&&_, _||_, cond, false≢true}
 use mathlib.Core.List.{List, [], _∷_}
 use lib.ListN.{length}
 use lib.Dec.{eqb, ltb}
 use borrow.Author.Tests.{ltb-true, eqb-true}
 use Rattle.meaning.specs.Octets.{octet, below}
-use Rattle.meaning.specs.Checks.{firstFailed}
 use Rattle.meaning.specs.Table.{entryCount, rowAt, byPort}
 use Rattle.meaning.specs.Memory.{cell, timer, waiting, isPresent, isSubscribed, isPending, isInFlight, present, subscribed, pending, inFlight, body, bit, flags, setTimer, expiries, sound}
 use Rattle.meaning.specs.Calls.{Outcome, numberOnly, isCommand, isAcknowledgement, messageChecks, message, Moment, whenSent, whenAcknowledged, whenGivenUp, pendingAfter, inFlightAfter, turned, buildChecks, build, expired, expiryChecks, expiry}
 use Rattle.meaning.proofs.Lists.{part-octet}
 use Rattle.meaning.proofs.Tests.{and-left, and-right, denied, not-true, implied, below-at, first-passed}
 use Rattle.meaning.proofs.Places.{timer-setTimer, setTimer-length, cell-setTimer}
-use Rattle.meaning.proofs.Sound.{Sound, opened, entry-of, present-setTimer, body-setTimer}
+use Rattle.meaning.proofs.Sound.{opened, entry-of, present-setTimer, body-setTimer}
 use Rattle.meaning.proofs.Turned.{SameMarks, cell-marks, Turned, turned-to}
 use Rattle.meaning.proofs.Checked.{call-either, call-done, call-passed}
 use Rattle.meaning.proofs.Kept.{idled, none-acknowledged, none-given-up, handled-either, acknowledged-waits, waits-sound, waits-now, expired-either}

@@ -1,5 +1,5 @@
 -- Law 1: fresh memory is sound, and every call leaves sound memory sound.
-use Prim.Native.Nat.{ℕ, zero, suc, _+_, _-_, _≤_, _<_}
+use Prim.Native.Nat.{ℕ, _+_, _-_, _≤_, _<_}
 use native.Mathlib.Omega.{arith}
 use native.Mathlib.Decide.{ℕ-discrete, decLe}
 use mathlib.Core.Path.{_≡_, refl, sym, ap, _∙_}
@@ -23,7 +23,7 @@ use Rattle.meaning.proofs.Values.{permits-opened}
 use Rattle.meaning.proofs.Blocks.{form-spelt}
 use Rattle.meaning.proofs.Places.{listed-place, timer-setTimer}
 use Rattle.meaning.proofs.Sound.{Sound, opened, put-sound, setTimer-sound}
-use Rattle.meaning.proofs.Turned.{setMarks-sound, marks-of, Turned, turned-to}
+use Rattle.meaning.proofs.Turned.{setMarks-sound, marks-of, turned-to}
 use Rattle.meaning.proofs.Checked.{call-memory, set-either}
 
 pub fresh-sound : sound fresh ≡ true

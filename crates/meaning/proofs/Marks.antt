@@ -1,5 +1,5 @@
 -- What becomes of the marks by a set (RULES 11.12), by subscribe and unsubscribe (RULES 11.21 to 11.24) and by a local value (RULES 13.5 to 13.11).
-use Prim.Native.Nat.{ℕ, zero, suc, _≤_, _<_}
+use Prim.Native.Nat.{ℕ, _≤_, _<_}
 use native.Mathlib.Omega.{arith}
 use native.Mathlib.Decide.{ℕ-discrete}
 use mathlib.Core.Path.{_≡_, refl, sym, ap, _∙_}

@@ -1,6 +1,6 @@
 -- Nothing that was told is lost (RULES 14.14): from a build on, whatever calls come but an acknowledgement, an unsubscribe of the name and making fresh,
 -- each name of the notification is in flight or pending, and once it is given up it is pending and told by the next build.
-use Prim.Native.Nat.{ℕ, zero, suc, _≤_, _<_}
+use Prim.Native.Nat.{ℕ, _≤_, _<_}
 use native.Mathlib.Omega.{arith}
 use native.Mathlib.Decide.{ℕ-discrete}
 use mathlib.Core.Path.{_≡_, refl, sym, ap, _∙_}
@@ -17,7 +17,7 @@ use Rattle.meaning.specs.Operation.{Op, capabilities, read, set, subscri
 use Rattle.meaning.specs.Step.{step, after, subscribeMemory, unsubscribeMemory}
 use Rattle.meaning.specs.Calls.{isAcknowledgement, opsOf, messageChecks, message, localMemory, localChecks, localValue, build, expiry}
 use Rattle.meaning.proofs.All.{all}
-use Rattle.meaning.proofs.Tests.{and-left, and-right, and-both, denied, first-passed}
+use Rattle.meaning.proofs.Tests.{and-left, and-right, and-both, or-left, or-right, neither, denied, first-passed}
 use Rattle.meaning.proofs.Turned.{SameMarks}
 use Rattle.meaning.proofs.Checked.{call-memory}
 use Rattle.meaning.proofs.Kept.{step-sound, Local, local-opened, handled-either, message-sound, localValue-sound, build-sound, expiry-sound}
@@ -28,7 +28,7 @@ use Rattle.meaning.proofs.Refused.{OfExpiry, build-refused, expiry-numb
 use Rattle.meaning.proofs.Timer.{build-does, build-leaves}
 use Rattle.meaning.proofs.Sendings.{Call, refresh, takeMessage, takeValue, buildIn, takeExpiry, gives, afterCalls, ends, unacknowledged, expiriesIn, sent-five-times, before, between, such-calls}
 use Rattle.meaning.proofs.Flights.{none-while-idle, build-idle, again-marks, given-up-leaves}
-use Rattle.meaning.proofs.Told.{tells, build-tells, reports-some, or-left, or-right}
+use Rattle.meaning.proofs.Told.{tells, build-tells, reports-some}
 
 -- ---- the statement
 
@@ -120,10 +120,6 @@ step-same m (selectiveRead n v) k s hk d = (refl, refl)
 step-same m (selectiveSubscribe n v) k s hk d = (refl, refl)
 step-same m (selectiveUnsubscribe n v) k s hk d = (refl, refl)
 step-same m (deleteEntry n v) k s hk d = (refl, refl)
-
-neither : (a b : Bool) → (a || b) ≡ false → (a ≡ false) × (b ≡ false)
-neither true b e = absurd (false≢true (sym e))
-neither false b e = (refl, e)
 
 after-untold : (m : List ℕ) (os : List Op) (k : ℕ) → sound m ≡ true → k < entryCount → unsubscribes (rowAt k .name) os ≡ false → Untold m k → Untold (after m os) k
 unfolding after unsubscribes

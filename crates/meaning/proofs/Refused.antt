@@ -13,7 +13,7 @@ use borrow.Author.Tests.{leb-true}
 use Rattle.meaning.specs.Octets.{octet}
 use Rattle.meaning.specs.Checks.{Checks, passed, check, firstFailed}
 use Rattle.meaning.specs.Table.{entryCount, timerAt, memoryLength}
-use Rattle.meaning.specs.Memory.{setTimer, expiries, sound, fresh}
+use Rattle.meaning.specs.Memory.{setTimer, expiries, fresh}
 use Rattle.meaning.specs.Calls.{Outcome, done, numberOnly, call, handled, fits, messageChecks, message, localChecks, localValue, notification, whenSent, turned, buildChecks, build, expired, expiryChecks, expiry, makeFresh}
 use Rattle.meaning.proofs.Lists.{octet-part}
 use Rattle.meaning.proofs.Tests.{every-at, first-passed}

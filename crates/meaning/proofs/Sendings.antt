@@ -10,7 +10,7 @@ use lib.ListN.{length}
 use lib.Dec.{eqb}
 use Rattle.meaning.specs.Octets.{nonempty, zeros}
 use Rattle.meaning.specs.Table.{rowAt, place, listed}
-use Rattle.meaning.specs.Memory.{timer, waiting, expiries, cell, size, present, subscribed, pending, inFlight, flags, store, setMarks, sound, fresh}
+use Rattle.meaning.specs.Memory.{timer, waiting, expiries, subscribed, pending, inFlight, flags, store, setMarks, sound, fresh}
 use Rattle.meaning.specs.Operation.{Op, capabilities, read, set, subscribe, unsubscribe, selectiveRead, selectiveSubscribe, selectiveUnsubscribe, deleteEntry}
 use Rattle.meaning.specs.Step.{stored, setMemory, subscribeMemory, unsubscribeMemory, step, after}
 use Rattle.meaning.specs.Calls.{Outcome, numberOnly, isCommand, isAcknowledgement, carriedOut, opsOf, messageChecks, message, differs, localMemory, localChecks, localValue, buildChecks, build, expiry, makeFresh}

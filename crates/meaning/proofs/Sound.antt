@@ -192,6 +192,20 @@ pub waiting-by : (m m′ : List ℕ) → timer m′ ≡ timer m → waiting m′
 unfolding waiting
 waiting-by m m′ e = rw e
 
+-- presence alone says whether a block may run
+pub runs-by : (m m′ : List ℕ) → ((j : ℕ) → j < entryCount → present m′ j ≡ present m j) → (present m commit ≡ true → fourPresent m ≡ true)
+    → present m′ commit ≡ true → fourPresent m′ ≡ true
+unfolding fourPresent
+runs-by m m′ same =
+    rw (
+      same commit (omega arith),
+      same adminBaseTime (omega arith),
+      same adminControlListLength (omega arith),
+      same adminControlList (omega arith),
+      same adminCycleTime (omega arith),
+    )
+    (λ r. r)
+
 -- ---- an entry is put
 
 module _ (m : List ℕ) (k : ℕ) (p s q i : Bool) (v : List ℕ) (S : Sound m) (hk : k < entryCount) (hv : length v ≤ rowAt k .most) where
@@ -312,7 +326,6 @@ module _ (m : List ℕ) (w n : ℕ) (S : Sound m) where
       })
 
   pub setTimer-sound : timerSound (w ∷ n ∷ []) ≡ true → ((j : ℕ) → j < entryCount → inFlight m j ≡ true → eqb w 1 ≡ true) → sound (setTimer m w n) ≡ true
-  unfolding fourPresent
   setTimer-sound h f =
       closed (setTimer m w n)
       record {
@@ -320,14 +333,6 @@ module _ (m : List ℕ) (w n : ℕ) (S : Sound m) where
         entries = setTimer-entry f;
         gate = present-setTimer gateEnabled (omega arith) ∙ S .gate;
         listMax = present-setTimer supportedListMax (omega arith) ∙ S .listMax;
-        runs =
-            rw (
-              present-setTimer commit (omega arith),
-              present-setTimer adminBaseTime (omega arith),
-              present-setTimer adminControlListLength (omega arith),
-              present-setTimer adminControlList (omega arith),
-              present-setTimer adminCycleTime (omega arith),
-            )
-            (S .runs);
+        runs = runs-by m (setTimer m w n) present-setTimer (S .runs);
         timed = rw (timer-setTimer m w n (S .long)) h;
       }

@@ -1,8 +1,7 @@
 -- The timer: building starts waiting and puts what it reports in flight, an acknowledgement and the fifth expiry end waiting and leave nothing in flight, expiries are counted.
-use Prim.Native.Nat.{ℕ, zero, suc, _+_, _≤_, _<_}
+use Prim.Native.Nat.{ℕ, _+_, _≤_, _<_}
 use native.Mathlib.Omega.{arith}
-use native.Mathlib.Decide.{ℕ-discrete}
-use mathlib.Core.Path.{_≡_, refl, sym, ap, _∙_}
+use mathlib.Core.Path.{_≡_, _∙_}
 use mathlib.Core.Bool.{Bool, true, false}
 use mathlib.Core.List.{List, [], _∷_}
 use lib.ListN.{length}
@@ -16,7 +15,7 @@ use Rattle.meaning.proofs.Tests.{first-passed}
 use Rattle.meaning.proofs.Places.{timer-setTimer, cell-setTimer}
 use Rattle.meaning.proofs.Checked.{call-done, call-passed}
 use Rattle.meaning.proofs.Sound.{Sound, opened, present-setTimer, body-setTimer}
-use Rattle.meaning.proofs.Kept.{idled, idled-sound, none-acknowledged, none-given-up, waits-sound, waits-now, expired-again, expired-last}
+use Rattle.meaning.proofs.Kept.{idled, waits-sound, waits-now, expired-again, expired-last}
 use Rattle.meaning.proofs.Turned.{SameMarks, cell-marks, turned-to}
 
 -- what the timer says

@@ -15,7 +15,7 @@ use Rattle.meaning.specs.Memory.{present, pending}
 use Rattle.meaning.specs.Step.{Answer}
 use Rattle.meaning.specs.Reply.{Held, Failed, Records, joined, recordOf, gathered}
 use Rattle.meaning.specs.Calls.{Outcome, report, reports, notification, buildChecks, build}
-use Rattle.meaning.proofs.Tests.{and-left, and-right, or-cases, alike, below-at}
+use Rattle.meaning.proofs.Tests.{and-left, and-right, or-left, or-right, or-cases, alike, below-at}
 use Rattle.meaning.proofs.Checked.{call-done, call-passed}
 use Rattle.meaning.proofs.Records.{gathered-append}
 use Rattle.meaning.proofs.Notified.{report-value, report-absent, decodeNotification, notification-read}
@@ -116,13 +116,6 @@ told-pending m (suc j) k hj hk e = go (or-cases _ _ (sym (told-next m j (rowAt k
         let same = eqb-true (rowAt j .name) (rowAt k .name) (and-right (pending m j) _ h) in
         let y : j ≡ k = sym (place-of-name j (omega arith)) ∙ ap place same ∙ place-of-name k hk in
         ap (pending m) (sym y) ∙ and-left _ _ h
-
-pub or-left : (a b : Bool) → a ≡ true → (a || b) ≡ true
-or-left a b e = rw e
-
-pub or-right : (a b : Bool) → b ≡ true → (a || b) ≡ true
-or-right true b e = refl
-or-right false b e = e
 
 pending-told : (m : List ℕ) (j k : ℕ) → k < j → pending m k ≡ true → tellsIn (gathered (reports m j)) (rowAt k .name) ≡ true
 pending-told m zero k h e = absurd (omega arith)

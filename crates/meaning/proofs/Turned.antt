@@ -3,17 +3,17 @@
 use Prim.Native.Nat.{ℕ, zero, suc, _+_, _*_, _≤_, _<_}
 use native.Mathlib.Omega.{arith}
 use native.Mathlib.Decide.{ℕ-discrete}
-use mathlib.Core.Path.{_≡_, refl, sym, ap, _∙_}
+use mathlib.Core.Path.{_≡_, refl, _∙_}
 use mathlib.Core.Logic.{_≢_}
 use mathlib.Core.Bool.{Bool, true, false, _&&_, and-true}
 use mathlib.Core.List.{List}
 use lib.ListN.{length}
 use Rattle.meaning.specs.Octets.{octet, at16, implies}
-use Rattle.meaning.specs.Table.{rowAt, byPort, entryCount, memoryLength, gateEnabled, adminBaseTime, adminControlListLength, adminControlList, adminCycleTime, supportedListMax, commit}
-use Rattle.meaning.specs.Memory.{cell, room, size, timer, waiting, body, flags, setMarks, isPresent, present, subscribed, pending, inFlight, fourPresent, sound}
+use Rattle.meaning.specs.Table.{rowAt, byPort, entryCount, memoryLength, gateEnabled, supportedListMax}
+use Rattle.meaning.specs.Memory.{cell, room, size, timer, waiting, body, flags, setMarks, isPresent, present, subscribed, pending, inFlight, sound}
 use Rattle.meaning.specs.Calls.{Moment, whenSent, whenAcknowledged, whenGivenUp, pendingAfter, inFlightAfter, turned}
 use Rattle.meaning.proofs.Places.{flagged-length, octet-flagged, flags-flagged, cell-octet-flagged, cell-flagged-other, room-flagged, timer-flagged}
-use Rattle.meaning.proofs.Sound.{EntrySound, Sound, opened, closed, Entry, entry-of, entry-closed, Flagged, flagged, MarksRight, waiting-by}
+use Rattle.meaning.proofs.Sound.{EntrySound, Sound, opened, closed, Entry, entry-of, entry-closed, Flagged, flagged, MarksRight, waiting-by, runs-by}
 
 -- ---- marks are set, and memory stays sound
 
@@ -98,7 +98,6 @@ module _ (m : List ℕ) (k : ℕ) (s q i : Bool) (S : Sound m) (hk : k < entryCo
       rw (waiting-by m (setMarks m k s q i) timer-setMarks, cell-setMarks-other j ne, room-setMarks j hj) (S .entries j hj)
 
   pub setMarks-sound : MarksRight (waiting m) k s q i → sound (setMarks m k s q i) ≡ true
-  unfolding fourPresent
   setMarks-sound marks =
       closed (setMarks m k s q i)
       record {
@@ -106,15 +105,7 @@ module _ (m : List ℕ) (k : ℕ) (s q i : Bool) (S : Sound m) (hk : k < entryCo
         entries = λ j hj. setMarks-entry marks j hj (ℕ-discrete j k);
         gate = present-setMarks gateEnabled (omega arith) ∙ S .gate;
         listMax = present-setMarks supportedListMax (omega arith) ∙ S .listMax;
-        runs =
-            rw (
-              present-setMarks commit (omega arith),
-              present-setMarks adminBaseTime (omega arith),
-              present-setMarks adminControlListLength (omega arith),
-              present-setMarks adminControlList (omega arith),
-              present-setMarks adminCycleTime (omega arith),
-            )
-            (S .runs);
+        runs = runs-by m (setMarks m k s q i) present-setMarks (S .runs);
         timed = rw timer-setMarks (S .timed);
       }
 

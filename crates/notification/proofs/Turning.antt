@@ -1,13 +1,12 @@
 -- What comes of an entry's flags, by masks as the code has them: each is tried on the sixteen octets that flags may be.
 use Prim.Native.Nat.{ℕ, _+_, _*_, _/_, _%_, _≤_, _<_}
-use native.Mathlib.Omega.{arith}
 use mathlib.Core.Path.{_≡_, refl, sym, ap, _∙_}
 use mathlib.Core.Bool.{Bool, true, cond}
 use mathlib.Core.List.{List, [], _∷_}
 use lib.Dec.{eqb, ltb}
 use borrow.Author.Tests.{eqb-true, lt-ltb, le-ltb}
 use Rattle.meaning.specs.Octets.{octet, below, splice}
-use Rattle.meaning.specs.Memory.{present, subscribed, pending, inFlight, bit, flags, setMarks}
+use Rattle.meaning.specs.Memory.{subscribed, pending, inFlight, bit, flags, setMarks}
 use Rattle.meaning.specs.Calls.{Moment, whenSent, whenAcknowledged, whenGivenUp, pendingAfter, inFlightAfter}
 use Rattle.meaning.proofs.Tests.{below-at}
 use Rattle.memory.proofs.Masks.{masks, masked}

@@ -1,6 +1,5 @@
 -- `command::subscribe` meets its contract.
 use borrow.Author.Needs.{needs}
-use Rattle.meaning.specs.Memory.{pending}
 use Rattle.command.proofs.Sets.{subscribe-listed, subscribe-unlisted}
 use Rattle.command.proofs.subscribe.Statement.{statement}
 use Rattle.command.proofs.subscribe.Tie as tie

@@ -1,10 +1,8 @@
 -- `endpoint::build` meets its contract.
-use Prim.Native.Nat.{ℕ}
 use native.Mathlib.Nat.{zero-add}
 use native.Mathlib.Omega.{arith}
-use mathlib.Core.Path.{ap, _≡_, refl, sym, _∙_}
+use mathlib.Core.Path.{_≡_, refl, sym, _∙_}
 use mathlib.Core.Bool.{true, false}
-use mathlib.Core.List.{List}
 use borrow.Author.Needs.{needs}
 use Rattle.meaning.specs.Table.{entryCount}
 use Rattle.meaning.specs.Memory.{setTimer, sound, waiting}

@@ -1,6 +1,4 @@
 -- `notification::flags_after` meets its contract.
-use native.Mathlib.Omega.{arith}
-use mathlib.Core.Path.{_∙_, sym, ap}
 use borrow.Author.Needs.{needs}
 use Rattle.notification.specs.Moments.{momentOf}
 use Rattle.notification.proofs.Turning.{sent, acknowledged, given-up-kept, given-up-turned}
