@@ -4,17 +4,18 @@ use Prim.Native.Nat.{ℕ, _+_, _*_, _/_, _%_, _<_}
 use native.Mathlib.Omega.{arith}
 use mathlib.Core.Path.{_≡_, refl, sym, ap, _∙_}
 use mathlib.Core.Logic.{_≢_}
-use mathlib.Core.Bool.{Bool, true, false, _&&_, _||_, cond, false≢true}
+use mathlib.Core.Bool.{Bool, true, false, _||_, false≢true}
 use mathlib.Core.List.{List, [], _∷_}
 use lib.ListN.{length}
-use lib.Dec.{eqb, ltb}
+use lib.Dec.{eqb}
 use borrow.Author.Tests.{ltb-true, eqb-true}
 use Rattle.meaning.specs.Octets.{octet, below}
 use Rattle.meaning.specs.Table.{entryCount, rowAt, byPort}
 use Rattle.meaning.specs.Memory.{cell, timer, waiting, isPresent, isSubscribed, isPending, isInFlight, present, subscribed, pending, inFlight, body, bit, flags, setTimer, expiries, sound}
 use Rattle.meaning.specs.Calls.{Outcome, numberOnly, isCommand, isAcknowledgement, messageChecks, message, Moment, whenSent, whenAcknowledged, whenGivenUp, pendingAfter, inFlightAfter, turned, buildChecks, build, expired, expiryChecks, expiry}
 use Rattle.meaning.proofs.Lists.{part-octet}
-use Rattle.meaning.proofs.Tests.{and-left, and-right, denied, not-true, implied, below-at, first-passed}
+use Rattle.meaning.proofs.Tests.{and-right, denied, not-true, implied, below-at, first-passed}
+use Rattle.meaning.proofs.Moments.{sentFlags, acknowledgedFlags, givenUpFlags, matches, match-at, sent-matches, acknowledged-matches, givenUp-matches}
 use Rattle.meaning.proofs.Places.{timer-setTimer, setTimer-length, cell-setTimer}
 use Rattle.meaning.proofs.Sound.{opened, entry-of, present-setTimer, body-setTimer}
 use Rattle.meaning.proofs.Turned.{SameMarks, cell-marks, Turned, turned-to}
@@ -50,54 +51,6 @@ unfolding present subscribed pending inFlight isPresent isSubscribed isPending i
 flags-octet m s k hk =
     let c = cell m k in
     sym (cell-flags m k) ∙ sym (eqb-true _ _ (below-at 16 spells all-spell (octet c 2) (ltb-true (octet c 2) 16 (entry-of m (opened m s) k hk .flagged))))
-
--- ---- what each moment makes of an octet of flags
-
--- pending becomes in flight; in flight goes; in flight becomes pending, beside which it may have stood
-unfoldable pub sentFlags : ℕ → ℕ
-sentFlags f = f % 4 + f / 4 * 8
-
-unfoldable pub acknowledgedFlags : ℕ → ℕ
-acknowledgedFlags f = f % 8
-
-unfoldable pub givenUpFlags : ℕ → ℕ
-givenUpFlags f = cond (ltb f 8) f (f % 4 + 4)
-
--- a test of both truth values
-abbrev both : (Bool → Bool) → Bool
-both f = f true && f false
-
-both-at : (f : Bool → Bool) → both f ≡ true → (b : Bool) → f b ≡ true
-both-at f e true = and-left (f true) _ e
-both-at f e false = and-right (f true) _ e
-
--- a moment makes of each octet of flags, in flight or not, what g makes of it
-abbrev oneMatches : Moment → (ℕ → ℕ) → Bool → Bool → Bool → Bool → Bool
-oneMatches t g i p s q = eqb (flags p s (pendingAfter t q i) (inFlightAfter t q i)) (g (flags p s q i))
-
-abbrev matches : Moment → (ℕ → ℕ) → Bool → Bool
-matches t g i = both (λ p. both (λ s. both (λ q. oneMatches t g i p s q)))
-
-match-at : (t : Moment) (g : ℕ → ℕ) (i : Bool) → matches t g i ≡ true → (p s q : Bool)
-    → flags p s (pendingAfter t q i) (inFlightAfter t q i) ≡ g (flags p s q i)
-match-at t g i e p s q =
-    let f = both-at (λ b. both (λ c. both (λ d. oneMatches t g i b c d))) e p in
-    let h = both-at (λ c. both (λ d. oneMatches t g i p c d)) f s in
-    eqb-true _ _ (both-at (λ d. oneMatches t g i p s d) h q)
-
-sent-matches : matches whenSent sentFlags false ≡ true
-unfolding flags bit pendingAfter inFlightAfter sentFlags
-sent-matches = refl
-
-acknowledged-matches : (i : Bool) → matches whenAcknowledged acknowledgedFlags i ≡ true
-unfolding flags bit pendingAfter inFlightAfter acknowledgedFlags
-acknowledged-matches true = refl
-acknowledged-matches false = refl
-
-givenUp-matches : (i : Bool) → matches whenGivenUp givenUpFlags i ≡ true
-unfolding flags bit pendingAfter inFlightAfter givenUpFlags
-givenUp-matches true = refl
-givenUp-matches false = refl
 
 -- ---- every octet of memory
 

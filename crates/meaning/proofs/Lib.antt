@@ -6,6 +6,7 @@ pub mod Places
 pub mod Contents
 pub mod Values
 pub mod Blocks
+pub mod Moments
 pub mod Sound
 pub mod Spelt
 pub mod Turned
