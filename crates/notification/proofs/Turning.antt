@@ -6,7 +6,7 @@ use mathlib.Core.List.{List, [], _∷_}
 use lib.Dec.{eqb, ltb}
 use borrow.Author.Tests.{eqb-true, lt-ltb, le-ltb}
 use Rattle.meaning.specs.Octets.{octet, below, splice}
-use Rattle.meaning.specs.Memory.{subscribed, pending, inFlight, bit, flags, setMarks}
+use Rattle.meaning.specs.Memory.{isPresent, isSubscribed, isPending, isInFlight, subscribed, pending, inFlight, bit, flags, setMarks}
 use Rattle.meaning.specs.Calls.{Moment, whenSent, whenAcknowledged, whenGivenUp, pendingAfter, inFlightAfter}
 use Rattle.meaning.proofs.Tests.{below-at}
 use Rattle.memory.proofs.Masks.{masks, masked}
@@ -21,21 +21,21 @@ agree-at : (h : ℕ → ℕ) (t : Moment) → agrees h t ≡ true → (f : ℕ) 
 agree-at h t e f l = eqb-true _ _ (below-at 16 (λ x. eqb (h x) (flagsAfter t x)) e f l)
 
 sent-agrees : agrees (λ f. f % 4 + f / 4 % 2 * 8) whenSent ≡ true
-unfolding below flagsAfter flags bit pendingAfter inFlightAfter
+unfolding below flagsAfter flags bit pendingAfter inFlightAfter isPresent isSubscribed isPending isInFlight
 sent-agrees = refl
 
 pub sent : (f : ℕ) → f < 16 → f % 4 + f / 4 % 2 * 8 ≡ flagsAfter whenSent f
 sent = agree-at (λ f. f % 4 + f / 4 % 2 * 8) whenSent sent-agrees
 
 acknowledged-agrees : agrees (λ f. f % 8) whenAcknowledged ≡ true
-unfolding below flagsAfter flags bit pendingAfter inFlightAfter
+unfolding below flagsAfter flags bit pendingAfter inFlightAfter isPresent isSubscribed isPending isInFlight
 acknowledged-agrees = refl
 
 pub acknowledged : (f : ℕ) → f < 16 → f % 8 ≡ flagsAfter whenAcknowledged f
 acknowledged = agree-at (λ f. f % 8) whenAcknowledged acknowledged-agrees
 
 givenUp-agrees : agrees (λ f. cond (ltb f 8) f (f % 4 + 4)) whenGivenUp ≡ true
-unfolding below flagsAfter flags bit pendingAfter inFlightAfter
+unfolding below flagsAfter flags bit pendingAfter inFlightAfter isPresent isSubscribed isPending isInFlight
 givenUp-agrees = refl
 
 given-up : (f : ℕ) → f < 16 → cond (ltb f 8) f (f % 4 + 4) ≡ flagsAfter whenGivenUp f
@@ -50,7 +50,7 @@ given-up-turned f l h = ap (λ (b : Bool). cond b f (f % 4 + 4)) (sym (le-ltb f 
 -- ---- an entry's flags replaced
 
 turn-masks : (t : Moment) → masks (flagsAfter t) (λ p s q i. flags p s (pendingAfter t q i) (inFlightAfter t q i)) ≡ true
-unfolding below flagsAfter flags bit pendingAfter inFlightAfter
+unfolding below flagsAfter flags bit pendingAfter inFlightAfter isPresent isSubscribed isPending isInFlight
 turn-masks whenSent = refl
 turn-masks whenAcknowledged = refl
 turn-masks whenGivenUp = refl

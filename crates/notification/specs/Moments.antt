@@ -1,7 +1,7 @@
 -- What comes of a notification, and the flags of an entry then.
-use Prim.Native.Nat.{ℕ, _/_, _%_}
-use lib.Dec.{eqb}
-use Rattle.meaning.specs.Memory.{flags}
+use Prim.Native.Nat.{ℕ}
+use mathlib.Core.List.{List, [], _∷_}
+use Rattle.meaning.specs.Memory.{isPresent, isSubscribed, isPending, isInFlight, flags}
 use Rattle.meaning.specs.Calls.{whenSent, whenAcknowledged, whenGivenUp, pendingAfter, inFlightAfter}
 use Rattle.meaning.specs.Calls as calls
 use Rattle.notification.specs.declared.Moment.{Moment}
@@ -12,9 +12,8 @@ momentOf Sent = whenSent
 momentOf Acknowledged = whenAcknowledged
 momentOf GivenUp = whenGivenUp
 
--- an octet of flags with the marks that they become; present and subscribed as they were
+-- an octet of flags, as it stands in a cell, with the marks that its become; present and subscribed as they were
 unfoldable pub flagsAfter : calls.Moment → ℕ → ℕ
 flagsAfter t f =
-    let q = eqb (f / 4 % 2) 1 in
-    let i = eqb (f / 8 % 2) 1 in
-    flags (eqb (f % 2) 1) (eqb (f / 2 % 2) 1) (pendingAfter t q i) (inFlightAfter t q i)
+    let c : List ℕ = 0 ∷ 0 ∷ f ∷ [] in
+    flags (isPresent c) (isSubscribed c) (pendingAfter t (isPending c) (isInFlight c)) (inFlightAfter t (isPending c) (isInFlight c))

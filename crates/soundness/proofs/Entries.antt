@@ -49,7 +49,7 @@ entry-parts m k = simp (and-assoc, and-true)
 
 -- the marks by two comparisons, and by name: tried on the sixteen octets that flags may be, and neither passes for a larger one
 abbrev byNumber : Bool → Bool → ℕ → Bool
-byNumber w p f = ltb f (cond w 16 8) && (not (leb 4 f) || (eqb (f / 2 % 2) 1 && p))
+byNumber w p f = ltb f (cond p (cond w 16 8) 4) && (not (leb 4 f) || eqb (f / 2 % 2) 1)
 
 abbrev byName : Bool → Bool → ℕ → Bool
 byName w p f = ltb f 16 && (implies (eqb (f / 4 % 2) 1) (eqb (f / 2 % 2) 1 && p) && implies (eqb (f / 8 % 2) 1) (eqb (f / 2 % 2) 1 && (p && w)))
@@ -72,19 +72,23 @@ tests-agree false false = refl
 flags-tests : (w p : Bool) (f : ℕ) → byNumber w p f ≡ byName w p f
 flags-tests w p f = go (decLe 16 f)
   where
-    over : (v : Bool) → 16 ≤ f → ltb f (cond v 16 8) ≡ false
-    over true h = le-ltb f 16 h
-    over false h = le-ltb f 8 (omega arith)
+    over : (l : ℕ) → l ≤ 16 → 16 ≤ f → ltb f l ≡ false
+    over l h g = le-ltb f l (omega arith)
+
+    most : (a b : Bool) → cond a (cond b 16 8) 4 ≤ 16
+    most true true = omega arith
+    most true false = omega arith
+    most false b = omega arith
 
     go : Dec (16 ≤ f) → byNumber w p f ≡ byName w p f
-    go (yes h) = rw (over w h, le-ltb f 16 h)
+    go (yes h) = rw (over (cond p (cond w 16 8) 4) (most p w) h, over 16 (omega arith) h)
     go (no h) = agreed _ _ (below-at 16 (λ x. agree (byNumber w p x) (byName w p x)) (tests-agree w p) f (omega arith))
 
 -- a cell's tests of what was found in it and in its row
-pub cell-found : (w : Bool) (r : Row) (c : List ℕ) {i n l : ℕ} {s p : Bool} → i ≡ at16 c 0 → n ≡ r .name → l ≡ cond w 16 8 → s ≡ isSubscribed c → p ≡ byPort (r .owner)
-    → (eqb i n && (eqb (octet c 3) 0 && (ltb (octet c 2) l && (not (leb 4 (octet c 2)) || (s && p))))) ≡ cellSound w r c
+pub cell-found : (w : Bool) (r : Row) (c : List ℕ) {i n l : ℕ} {s : Bool} → i ≡ at16 c 0 → n ≡ r .name → l ≡ cond (byPort (r .owner)) (cond w 16 8) 4 → s ≡ isSubscribed c
+    → (eqb i n && (eqb (octet c 3) 0 && (ltb (octet c 2) l && (not (leb 4 (octet c 2)) || s)))) ≡ cellSound w r c
 unfolding cellSound every isSubscribed isPending isInFlight
-cell-found w r c ei en el es ep = rw (ei, en, el, es, ep, and-true, flags-tests w (byPort (r .owner)) (octet c 2))
+cell-found w r c ei en el es = rw (ei, en, el, es, and-true, flags-tests w (byPort (r .owner)) (octet c 2))
 
 -- what an entry holds, from a value of n octets that is cut from its room
 pub fields-tests : (w : Bool) (r : Row) (c s : List ℕ) (n : ℕ) → n ≡ size c → n ≤ length s → length s ≡ r .most

@@ -11,10 +11,14 @@ ghost use Rattle.meaning.specs.Block.{permits};
 ghost use Rattle.meaning.specs.Memory.{flagLimit, cell, isPresent, size, timerSound, sound};
 ghost use Rattle.soundness.specs.Fields.{cellSound, fieldsAt, gapAt, allFields, allTails, acrossSound};
 
-// The first octet that the flags of a cell may not be. In flight is the highest flag, and stands only while waiting.
-fn flag_limit(waiting: bool) -> u8
-    ensures { λ r. ⌜ r ≡ cond waiting flagLimit 8 ⌝ }
+// The first octet that the flags of a cell may not be. Pending and in flight, the two highest, are for names that the port sets, and
+// in flight stands only while waiting.
+fn flag_limit(port: bool, waiting: bool) -> u8
+    ensures { λ r. ⌜ r ≡ cond port (cond waiting flagLimit 8) 4 ⌝ }
 {
+    if !port {
+        return table::PENDING;
+    }
     if waiting {
         table::FLAG_LIMIT
     } else {
@@ -22,8 +26,8 @@ fn flag_limit(waiting: bool) -> u8
     }
 }
 
-// Name, zero octet and flags of a cell (RULES 5.2 to 5.6, 5.17). Pending and in flight are the two highest flags and ask for the same,
-// so one comparison tells of either.
+// Name, zero octet and flags of a cell (RULES 5.2 to 5.6, 5.17). The name tells which flags there are, so of most cells one comparison
+// tells all.
 fn cell_sound(k: usize, c: &[u8], waiting: bool) -> bool
     requires { ⌜ length (now c) ≡ 6 ⌝ }
     ensures { λ r. ⌜ r ≡ cellSound waiting (rowAt k) (now (c .entry)) ⌝ }
@@ -31,13 +35,10 @@ fn cell_sound(k: usize, c: &[u8], waiting: bool) -> bool
     let row = table::row_at(k);
     let named = octets::get16(c, 0) == row.name;
     let owner = row.owner;
-    let limit = flag_limit(waiting);
+    let limit = flag_limit(table::by_port(owner), waiting);
     let marked = table::PENDING <= c[table::FLAGS_AT];
     let subscribed = memory::is_subscribed(c);
-    let port = table::by_port(owner);
-    named
-        & ((c[table::ZERO_AT] == 0)
-            & ((c[table::FLAGS_AT] < limit) & (!marked | (subscribed & port))))
+    named & ((c[table::ZERO_AT] == 0) & ((c[table::FLAGS_AT] < limit) & (!marked | subscribed)))
 }
 
 // A present value keeps its row, an absent one has length 0.
