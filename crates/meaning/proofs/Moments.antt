@@ -25,7 +25,7 @@ givenUpFlags f = cond (ltb f 8) f (f % 4 + 4)
 abbrev pub both : (Bool → Bool) → Bool
 both f = f true && f false
 
-both-at : (f : Bool → Bool) → both f ≡ true → (b : Bool) → f b ≡ true
+pub both-at : (f : Bool → Bool) → both f ≡ true → (b : Bool) → f b ≡ true
 both-at f e true = and-left (f true) _ e
 both-at f e false = and-right (f true) _ e
 

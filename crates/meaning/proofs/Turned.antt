@@ -5,13 +5,15 @@ use native.Mathlib.Omega.{arith}
 use native.Mathlib.Decide.{ℕ-discrete}
 use mathlib.Core.Path.{_≡_, refl, _∙_}
 use mathlib.Core.Logic.{_≢_}
-use mathlib.Core.Bool.{Bool, true, false, _&&_, and-true}
+use mathlib.Core.Bool.{Bool, true, _&&_, and-true}
 use mathlib.Core.List.{List}
 use lib.ListN.{length}
 use Rattle.meaning.specs.Octets.{octet, at16, implies}
 use Rattle.meaning.specs.Table.{rowAt, byPort, entryCount, memoryLength, gateEnabled, supportedListMax}
 use Rattle.meaning.specs.Memory.{cell, room, size, timer, waiting, body, flags, setMarks, isPresent, present, subscribed, pending, inFlight, sound}
 use Rattle.meaning.specs.Calls.{Moment, whenSent, whenAcknowledged, whenGivenUp, pendingAfter, inFlightAfter, turned}
+use Rattle.meaning.proofs.Tests.{and-left, and-right, and-both, implied}
+use Rattle.meaning.proofs.Moments.{both, both-at}
 use Rattle.meaning.proofs.Places.{flagged-length, octet-flagged, flags-flagged, cell-octet-flagged, cell-flagged-other, room-flagged, timer-flagged}
 use Rattle.meaning.proofs.Sound.{EntrySound, Sound, opened, closed, Entry, entry-of, entry-closed, Flagged, flagged, MarksRight, waiting-by, runs-by}
 
@@ -143,16 +145,25 @@ module _ (m : List ℕ) (k : ℕ) (s q i : Bool) (S : Sound m) (hk : k < entryCo
 
 -- ---- a turn
 
--- what becomes pending was pending or in flight, and what comes in flight was pending, so they stand where they may
+-- marks that stand where they may, with or without a subscription s and the port o, still do when they turn
+abbrev staysRight : Moment → Bool → Bool → Bool → Bool → Bool
+staysRight t s o q i =
+    implies (implies q (s && o) && implies i (s && o)) (implies (pendingAfter t q i) (s && o) && implies (inFlightAfter t q i) (s && o))
+
+all-stay : (t : Moment) → both (λ s. both (λ o. both (λ q. both (λ i. staysRight t s o q i)))) ≡ true
+unfolding implies pendingAfter inFlightAfter
+all-stay whenSent = refl
+all-stay whenAcknowledged = refl
+all-stay whenGivenUp = refl
+
 turn-right : (t : Moment) (w s o q i : Bool) → w ≡ true → implies q (s && o) ≡ true → implies i (s && (o && w)) ≡ true
     → (implies (pendingAfter t q i) (s && o) ≡ true) × (implies (inFlightAfter t q i) (s && (o && w)) ≡ true)
-unfolding pendingAfter inFlightAfter implies
-turn-right whenSent w s o true i h d u = (refl, rw (h, and-true) d)
-turn-right whenSent w s o false i h d u = (refl, refl)
-turn-right whenAcknowledged w s o q i h d u = (d, refl)
-turn-right whenGivenUp w s o true i h d u = (d, refl)
-turn-right whenGivenUp w s o false true h d u = (rw (h, and-true) at u, refl)
-turn-right whenGivenUp w s o false false h d u = (refl, refl)
+turn-right t w s o q i h d u =
+    let a = both-at (λ b. both (λ c. both (λ e. both (λ f. staysRight t b c e f)))) (all-stay t) s in
+    let b = both-at (λ c. both (λ e. both (λ f. staysRight t s c e f))) a o in
+    let c = both-at (λ e. both (λ f. staysRight t s o e f)) b q in
+    let r = implied _ _ (both-at (λ f. staysRight t s o q f) c i) (and-both d (rw (h, and-true) at u)) in
+    (and-left _ _ r, rw (h, and-true) (and-right (implies (pendingAfter t q i) (s && o)) _ r))
 
 -- what the marks of an entry become
 abbrev pub MarkedAfter : Moment → List ℕ → List ℕ → ℕ → Type 0

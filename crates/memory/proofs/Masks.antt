@@ -3,11 +3,11 @@ use Prim.Native.Nat.{ℕ, _+_, _*_, _/_, _%_}
 use native.Mathlib.Omega.{arith}
 use mathlib.Core.Path.{_≡_, refl, ap, _∙_}
 use mathlib.Core.Bool.{Bool, true, false, _&&_, _||_}
-use mathlib.Core.List.{List}
+use mathlib.Core.List.{List, [], _∷_}
 use lib.Dec.{eqb}
 use borrow.Author.Tests.{eqb-true}
-use Rattle.meaning.specs.Octets.{octet, below}
-use Rattle.meaning.specs.Memory.{present, subscribed, pending, inFlight, bit, flags}
+use Rattle.meaning.specs.Octets.{octet, below, splice}
+use Rattle.meaning.specs.Memory.{present, subscribed, pending, inFlight, bit, flags, setMarks}
 use Rattle.meaning.proofs.Tests.{below-at}
 use Rattle.meaning.proofs.Contents.{flag-bits}
 
@@ -64,3 +64,8 @@ unsubscribe-masks = refl
 
 pub unsubscribe-flags : (m : List ℕ) (k : ℕ) {f : ℕ} → f ≡ octet m (6 * k + 2) % 16 → f % 2 ≡ flags (present m k) false false false
 unsubscribe-flags m k e = rw e (masked (λ f. f % 2) (λ p _ _ _. flags p false false false) unsubscribe-masks m k)
+
+-- the octet of flags replaced by one that says so sets the marks
+pub marks-set : (m : List ℕ) (k : ℕ) (s q i : Bool) {f : ℕ} {m′ : List ℕ} → m′ ≡ splice m (6 * k + 2) (f ∷ []) → f ≡ flags (present m k) s q i → m′ ≡ setMarks m k s q i
+unfolding setMarks
+marks-set m k s q i w e = w ∙ ap (λ (x : ℕ). splice m (6 * k + 2) (x ∷ [])) e

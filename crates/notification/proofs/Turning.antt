@@ -9,7 +9,7 @@ use Rattle.meaning.specs.Octets.{octet, below, splice}
 use Rattle.meaning.specs.Memory.{isPresent, isSubscribed, isPending, isInFlight, subscribed, pending, inFlight, bit, flags, setMarks}
 use Rattle.meaning.specs.Calls.{Moment, whenSent, whenAcknowledged, whenGivenUp, pendingAfter, inFlightAfter}
 use Rattle.meaning.proofs.Tests.{below-at}
-use Rattle.memory.proofs.Masks.{masks, masked}
+use Rattle.memory.proofs.Masks.{masks, masked, marks-set}
 use Rattle.notification.specs.Moments.{flagsAfter}
 
 -- ---- each mask
@@ -57,8 +57,6 @@ turn-masks whenGivenUp = refl
 
 pub entry-turned : (t : Moment) (m : List ℕ) (k : ℕ) {f g : ℕ} {m′ : List ℕ} → f ≡ octet m (6 * k + 2) % 16 → g ≡ flagsAfter t f → m′ ≡ splice m (6 * k + 2) (g ∷ [])
     → m′ ≡ setMarks m k (subscribed m k) (pendingAfter t (pending m k) (inFlight m k)) (inFlightAfter t (pending m k) (inFlight m k))
-unfolding setMarks
 entry-turned t m k e h w =
-    w
-    ∙ ap (λ (x : ℕ). splice m (6 * k + 2) (x ∷ []))
+    marks-set m k (subscribed m k) (pendingAfter t (pending m k) (inFlight m k)) (inFlightAfter t (pending m k) (inFlight m k)) w
     (h ∙ ap (flagsAfter t) e ∙ masked (flagsAfter t) (λ p s q i. flags p s (pendingAfter t q i) (inFlightAfter t q i)) (turn-masks t) m k)

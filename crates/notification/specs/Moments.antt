@@ -12,7 +12,7 @@ momentOf Sent = whenSent
 momentOf Acknowledged = whenAcknowledged
 momentOf GivenUp = whenGivenUp
 
--- an octet of flags, as it stands in a cell, with the marks that its become; present and subscribed as they were
+-- an octet of flags, as it stands in a cell, with what its marks become; present and subscribed as they were
 unfoldable pub flagsAfter : calls.Moment → ℕ → ℕ
 flagsAfter t f =
     let c : List ℕ = 0 ∷ 0 ∷ f ∷ [] in

@@ -1,11 +1,8 @@
 -- `memory::subscribe` meets its contract.
-use Prim.Native.Nat.{ℕ, _+_, _*_}
-use mathlib.Core.Path.{ap, _∙_}
-use mathlib.Core.List.{[], _∷_}
+use mathlib.Core.Bool.{true}
 use borrow.Author.Needs.{needs}
-use Rattle.meaning.specs.Octets.{splice}
-use Rattle.meaning.specs.Memory.{setMarks}
-use Rattle.memory.proofs.Masks.{subscribe-flags}
+use Rattle.meaning.specs.Memory.{pending, inFlight}
+use Rattle.memory.proofs.Masks.{subscribe-flags, marks-set}
 use Rattle.memory.proofs.subscribe.Statement.{statement}
 use Rattle.memory.proofs.subscribe.Tie as tie
 
@@ -28,11 +25,10 @@ same-length : tie.Need-same-length
 same-length c = search needs
 
 returns : tie.Need-returns
-unfolding setMarks
 returns c =
     let a = c .before .before .before .before .before .before .before .args in
-    c .before .before .put-flags .ensures
-    ∙ ap (λ (f : ℕ). splice (a .m .now) (6 * a .k + 2) (f ∷ [])) (subscribe-flags (a .m .now) (a .k) (c .before .before .before .before .flags .ensures .0))
+    let m = a .m .now in
+    marks-set m (a .k) true (pending m (a .k)) (inFlight m (a .k)) (c .before .before .put-flags .ensures) (subscribe-flags m (a .k) (c .before .before .before .before .flags .ensures .0))
 
 pub subscribe-spec : {M : Type 1} → statement M
 subscribe-spec =
