@@ -5,7 +5,7 @@ use mathlib.Core.Path.{_≡_, sym, ap}
 use mathlib.Core.Bool.{true}
 use mathlib.Core.List.{List}
 use lib.ListN.{length, take, drop}
-use Rattle.meaning.specs.Calls.{message}
+use Rattle.meaning.specs.FormB.{message}
 use Rattle.stdio.specs.Pieces.{needed}
 use Rattle.stdio.specs.Taking.{Piece, Between, pieceAt, wholeAt, goesOn, lineAt, next}
 use Rattle.stdio.proofs.Taking.{Joins, turn, cut-out}

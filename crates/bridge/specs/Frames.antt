@@ -4,7 +4,8 @@ use mathlib.Core.Path.{_≡_}
 use mathlib.Core.Bool.{true}
 use mathlib.Core.List.{List}
 use lib.ListN.{length}
-use Rattle.meaning.specs.Calls.{Outcome, message}
+use Rattle.meaning.specs.Calls.{Outcome}
+use Rattle.meaning.specs.FormB.{message}
 use Rattle.stdio.specs.Taking.{Piece, Program, Between, taken, Wanting}
 use Rattle.answers.specs.Answers.{lineOf, Port}
 use Rattle.bridge.specs.declared.Served.{Served}

@@ -104,10 +104,6 @@ pub local-does : (m : List ℕ) (n k : ℕ) (v : List ℕ) → k ≡ place n →
 unfolding localValue localChecks call firstFailed whenPassed
 local-does m n k v e s p = rw (e, s, p)
 
-pub fresh-does : (m : List ℕ) → length m ≡ memoryLength → makeFresh m ≡ numberOnly 0 fresh []
-unfolding makeFresh call firstFailed whenPassed
-fresh-does m h = rw (eq-eqb (length m) memoryLength h)
-
 -- one expiry more, with the count as the memory says it
 pub counted-on : (m : List ℕ) {n : ℕ} {m′ : List ℕ} → n ≡ expiries m → m′ ≡ setTimer m 1 (n + 1) → m′ ≡ setTimer m 1 (expiries m + 1)
 counted-on m e f = f ∙ ap (λ (k : ℕ). setTimer m 1 (k + 1)) e

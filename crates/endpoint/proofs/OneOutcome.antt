@@ -7,9 +7,11 @@ use mathlib.Core.List.{List, [], _∷_}
 use lib.Dec.{eqb}
 use lib.ListN.{length, getD, take, drop}
 use lib.Seq.{take-at}
-use Rattle.meaning.specs.Calls.{message, localValue, build, expiry, makeFresh}
 use Rattle.meaning.specs.Calls as calls
-use Rattle.meaning.proofs.Refused.{RoomAfter, message-room, build-room}
+use Rattle.meaning.specs.FormB.{message, localValue, build, expiry, makeFresh}
+use Rattle.meaning.proofs.Refused.{RoomAfter}
+use Rattle.meaning.proofs.Sendings.{takeMessage, buildIn}
+use Rattle.meaning.proofs.Formed.{givesLent, roomOf, lent-room}
 use Rattle.endpoint.specs.declared.Outcome.{Outcome}
 use Rattle.endpoint.specs.declared.Outcome.the-variants.{Done, MemoryUnsound, MessageEmpty, MessageTooLong, TypeUnknown, LengthWrong, OperationMalformed, ReplyDoesNotFit, Idle, NothingPending, AlreadyWaiting, NotificationRoomTooSmall, NotPermitted, SendAgain, GivenUp}
 use Rattle.endpoint.specs.Outcomes.{numberOf, lengthOf, positionOf, Gives}
@@ -23,13 +25,15 @@ found o room a g = (
   rw (g .written, g .roomIs, a .after) (take-at (o .written) (drop (length (o .written)) room) (length (o .written)) refl),
 )
 
-pub message-written : (m s room : List ℕ) {r : Outcome} {m′ room′ : List ℕ} → Gives (message m s room) r m′ room′
-    → (lengthOf r ≤ length room) × (take (lengthOf r) room′ ≡ message m s room .written)
-message-written m s room g = found (message m s room) room (message-room m s room) g
+pub message-written : (b s room : List ℕ) {r : Outcome} {b′ room′ : List ℕ} → Gives (message b s room) r b′ room′
+    → (lengthOf r ≤ length room) × (take (lengthOf r) room′ ≡ message b s room .written)
+unfolding givesLent roomOf
+message-written b s room g = found (message b s room) room (lent-room b (takeMessage s room)) g
 
-pub build-written : (m room : List ℕ) {r : Outcome} {m′ room′ : List ℕ} → Gives (build m room) r m′ room′
-    → (lengthOf r ≤ length room) × (take (lengthOf r) room′ ≡ build m room .written)
-build-written m room g = found (build m room) room (build-room m room) g
+pub build-written : (b room : List ℕ) {r : Outcome} {b′ room′ : List ℕ} → Gives (build b room) r b′ room′
+    → (lengthOf r ≤ length room) × (take (lengthOf r) room′ ≡ build b room .written)
+unfolding givesLent roomOf
+build-written b room g = found (build b room) room (lent-room b (buildIn room)) g
 
 -- ---- law 9: what a call's contract allows is one thing
 
@@ -83,17 +87,17 @@ one-outcome o x y g h =
 
 -- of each of the five calls
 
-pub message-one : (m s room : List ℕ) (x y : Seen) → Allows (message m s room) x → Allows (message m s room) y → x ≡ y
-message-one m s room = one-outcome (message m s room)
+pub message-one : (b s room : List ℕ) (x y : Seen) → Allows (message b s room) x → Allows (message b s room) y → x ≡ y
+message-one b s room = one-outcome (message b s room)
 
-pub localValue-one : (m : List ℕ) (n : ℕ) (v : List ℕ) (x y : Seen) → Allows (localValue m n v) x → Allows (localValue m n v) y → x ≡ y
-localValue-one m n v = one-outcome (localValue m n v)
+pub localValue-one : (b : List ℕ) (n : ℕ) (v : List ℕ) (x y : Seen) → Allows (localValue b n v) x → Allows (localValue b n v) y → x ≡ y
+localValue-one b n v = one-outcome (localValue b n v)
 
-pub build-one : (m room : List ℕ) (x y : Seen) → Allows (build m room) x → Allows (build m room) y → x ≡ y
-build-one m room = one-outcome (build m room)
+pub build-one : (b room : List ℕ) (x y : Seen) → Allows (build b room) x → Allows (build b room) y → x ≡ y
+build-one b room = one-outcome (build b room)
 
-pub expiry-one : (m : List ℕ) (x y : Seen) → Allows (expiry m) x → Allows (expiry m) y → x ≡ y
-expiry-one m = one-outcome (expiry m)
+pub expiry-one : (b : List ℕ) (x y : Seen) → Allows (expiry b) x → Allows (expiry b) y → x ≡ y
+expiry-one b = one-outcome (expiry b)
 
-pub makeFresh-one : (m : List ℕ) (x y : Seen) → Allows (makeFresh m) x → Allows (makeFresh m) y → x ≡ y
-makeFresh-one m = one-outcome (makeFresh m)
+pub makeFresh-one : (b : List ℕ) (x y : Seen) → Allows (makeFresh b) x → Allows (makeFresh b) y → x ≡ y
+makeFresh-one b = one-outcome (makeFresh b)

@@ -1,16 +1,21 @@
 -- The cut law reaches the code: it holds of whatever callers get from `message`, by its contract alone. A caller sees an outcome, the
 -- memory and the room that the call left; nothing is assumed of them but that the contract allows them.
 use Prim.Native.Nat.{ℕ}
+use native.Mathlib.Omega.{arith}
 use mathlib.Core.Path.{_≡_, refl, sym, ap, ap₂, _∙_}
 use mathlib.Core.Bool.{true}
 use mathlib.Core.List.{List, [], _∷_}
 use lib.ListN.{take}
 use Rattle.meaning.specs.Reply.{Records, noRecords, joined, complete}
-use Rattle.meaning.specs.Calls.{isCommand, operations, message}
+use Rattle.meaning.specs.Calls.{Outcome, isCommand, operations}
+use Rattle.meaning.specs.Calls as calls
+use Rattle.meaning.specs.FormB.{ahead, behind, formed, message}
 use Rattle.meaning.proofs.Lists.{Each, Octets}
 use Rattle.meaning.proofs.Decode.{decode}
+use Rattle.meaning.proofs.Sendings.{takeMessage, gives}
+use Rattle.meaning.proofs.Formed.{message-behind, givesLent, asksForm, not-1-formed}
 use Rattle.meaning.proofs.Cut.{commandOf, Part, joinedParts, Sent, partsOf, sendsWith, inOneRoom, lastMemory, joinedReplies, CarriedOut, Cut, Roomy, cut-rooms, cut}
-use Rattle.endpoint.specs.Outcomes.{numberOf, lengthOf}
+use Rattle.endpoint.specs.Outcomes.{Gives, numberOf, lengthOf}
 use Rattle.endpoint.proofs.OneOutcome.{Seen, Allows, message-written}
 
 -- the reply that a caller finds in the room
@@ -19,17 +24,17 @@ replyIn x = take (lengthOf (x .outcome)) (x .room)
 
 -- the parts sent in order, each as a command into the memory that the call before left, and each with its own room
 abbrev pub Called : List ℕ → List Sent → List Seen → Type 0
-Called m [] [] = Unit {0}
-Called m [] (x ∷ xs) = ⊥
-Called m (p ∷ ps) [] = ⊥
-Called m (p ∷ ps) (x ∷ xs) = Allows (message m (commandOf (p .octets)) (p .room)) x × Called (x .memory) ps xs
+Called b [] [] = Unit {0}
+Called b [] (x ∷ xs) = ⊥
+Called b (p ∷ ps) [] = ⊥
+Called b (p ∷ ps) (x ∷ xs) = Allows (message b (commandOf (p .octets)) (p .room)) x × Called (x .memory) ps xs
 
 -- the parts sent in order with one room: each into the memory and the room that the call before left
 abbrev pub CalledInOne : List ℕ → List ℕ → List (List ℕ) → List Seen → Type 0
-CalledInOne m room [] [] = Unit {0}
-CalledInOne m room [] (x ∷ xs) = ⊥
-CalledInOne m room (p ∷ ps) [] = ⊥
-CalledInOne m room (p ∷ ps) (x ∷ xs) = Allows (message m (commandOf p) room) x × CalledInOne (x .memory) (x .room) ps xs
+CalledInOne b room [] [] = Unit {0}
+CalledInOne b room [] (x ∷ xs) = ⊥
+CalledInOne b room (p ∷ ps) [] = ⊥
+CalledInOne b room (p ∷ ps) (x ∷ xs) = Allows (message b (commandOf p) room) x × CalledInOne (x .memory) (x .room) ps xs
 
 -- the memory after the last of them, and the records of their replies joined kind by kind
 unfoldable pub lastSeen : List ℕ → List Seen → List ℕ
@@ -45,68 +50,94 @@ pub record Replied (x : Seen) : Type 0 where
   pub number : numberOf (x .outcome) ≡ 0
   pub reply : replyIn x ≡ complete (decode (replyIn x))
 
--- what callers see of the parts is what the definition gives for them
+-- what a contract allows on memory with 02 ahead is what is given on the memory
+bare : (m s room : List ℕ) (x : Seen) → Allows (message (ahead m) s room) x → Allows (formed (calls.message m s room)) x
+bare m s room x g = rw (message-behind m s room) at g
+
+written-bare : (m s room : List ℕ) (x : Seen) → Allows (message (ahead m) s room) x → replyIn x ≡ calls.message m s room .written
+written-bare m s room x g = message-written (ahead m) s room g .1 ∙ ap (λ (o : Outcome). o .written) (message-behind m s room)
+
+-- what callers see of the parts is what the definition gives for them on the memory behind the first octet
 record Follows (m : List ℕ) (ps : List Sent) (xs : List Seen) : Type 0 where
-  memories : lastSeen m xs ≡ lastMemory m (sendsWith m ps)
+  memories : lastSeen (ahead m) xs ≡ ahead (lastMemory m (sendsWith m ps))
   replies : recordsSeen xs ≡ joinedReplies (sendsWith m ps)
   carried : Each CarriedOut (sendsWith m ps) → Each Replied xs
 
-follow : (ps : List Sent) (xs : List Seen) (m : List ℕ) → Called m ps xs → Follows m ps xs
+follow : (ps : List Sent) (xs : List Seen) (m : List ℕ) → Called (ahead m) ps xs → Follows m ps xs
 unfolding sendsWith lastMemory joinedReplies lastSeen recordsSeen
 follow [] [] m c = record { memories = refl; replies = refl; carried = λ e. tt }
 follow [] (x ∷ xs) m c = absurd c
 follow (p ∷ ps) [] m c = absurd c
 follow (p ∷ ps) (x ∷ xs) m c =
-    let g = c .0 in
-    let o = message m (commandOf (p .octets)) (p .room) in
-    let w : replyIn x ≡ o .written = message-written m (commandOf (p .octets)) (p .room) g .1 in
-    let r : Follows (o .memory) ps xs = rw (sym (g .memoryIs)) (follow ps xs (x .memory) (c .1)) in
-    let e : lastSeen (x .memory) xs ≡ lastSeen (o .memory) xs = ap (λ (n : List ℕ). lastSeen n xs) (g .memoryIs) in
+    let s = commandOf (p .octets) in
+    let o = calls.message m s (p .room) in
+    let g : Gives (formed o) (x .outcome) (x .memory) (x .room) = bare m s (p .room) x (c .0) in
+    let w : replyIn x ≡ o .written = written-bare m s (p .room) x (c .0) in
+    let d : Called (ahead (o .memory)) ps xs = rw (g .memoryIs) at (c .1) in
+    let r = follow ps xs (o .memory) d in
+    let e : lastSeen (x .memory) xs ≡ lastSeen (ahead (o .memory)) xs = ap (λ (n : List ℕ). lastSeen n xs) (g .memoryIs) in
     record {
       memories = e ∙ r .memories;
       replies = ap₂ joined (ap decode w) (r .replies);
       carried = λ d. (record { number = g .number ∙ d .0 .number; reply = rw w (d .0 .reply) }, r .carried (d .1));
     }
 
-in-one : (m room : List ℕ) (ps : List (List ℕ)) (xs : List Seen) → CalledInOne m room ps xs → Called m (inOneRoom m room ps) xs
+in-one : (m room : List ℕ) (ps : List (List ℕ)) (xs : List Seen) → CalledInOne (ahead m) room ps xs → Called (ahead m) (inOneRoom m room ps) xs
 unfolding inOneRoom
 in-one m room [] [] c = tt
 in-one m room [] (x ∷ xs) c = absurd c
 in-one m room (p ∷ ps) [] c = absurd c
 in-one m room (p ∷ ps) (x ∷ xs) c =
-    let g = c .0 in
-    let o = message m (commandOf p) room in
-    let f : Called (x .memory) (inOneRoom (o .memory) (o .room) ps) xs = rw (sym (g .memoryIs), sym (g .roomIs)) (in-one (x .memory) (x .room) ps xs (c .1)) in
-    (g, f)
+    let o = calls.message m (commandOf p) room in
+    let g : Gives (formed o) (x .outcome) (x .memory) (x .room) = bare m (commandOf p) room x (c .0) in
+    let d : CalledInOne (ahead (o .memory)) (o .room) ps xs = rw (g .memoryIs, g .roomIs) at (c .1) in
+    let f : Called (x .memory) (inOneRoom (o .memory) (o .room) ps) xs = rw (g .memoryIs) (in-one (o .memory) (o .room) ps xs d) in
+    (c .0, f)
 
 -- demand 3, of calls: each part is carried out and its reply spells its records, the memory at the end is that of the one call to the octet, and the
 -- records of the replies joined are those of its reply
-pub record CutSeen (x : Seen) (m : List ℕ) (xs : List Seen) : Type 0 where
+pub record CutSeen (x : Seen) (b : List ℕ) (xs : List Seen) : Type 0 where
   pub eachCarriedOut : Each Replied xs
-  pub sameMemory : lastSeen m xs ≡ x .memory
+  pub sameMemory : lastSeen b xs ≡ x .memory
   pub sameRecords : recordsSeen xs ≡ decode (replyIn x)
 
-module _ (m s room : List ℕ) (x : Seen) (o : Octets s) (c : isCommand s ≡ true) (g : Allows (message m s room) x) (n : numberOf (x .outcome) ≡ 0) where
-  done : message m s room .number ≡ 0
-  done = sym (g .number) ∙ n
+-- on memory with 02 ahead
+module _ (m s room : List ℕ) (x : Seen) (o : Octets s) (c : isCommand s ≡ true) (g : Allows (message (ahead m) s room) x) (n : numberOf (x .outcome) ≡ 0) where
+  done : calls.message m s room .number ≡ 0
+  done = sym (bare m s room x g .number) ∙ n
 
-  written : replyIn x ≡ message m s room .written
-  written = message-written m s room g .1
-
-  seen : (ps : List Sent) (xs : List Seen) → Called m ps xs → Cut m (sendsWith m ps) (message m s room .memory) (decode (message m s room .written)) → CutSeen x m xs
+  seen : (ps : List Sent) (xs : List Seen) → Called (ahead m) ps xs
+      → Cut m (sendsWith m ps) (calls.message m s room .memory) (decode (calls.message m s room .written)) → CutSeen x (ahead m) xs
   seen ps xs d k =
       let f = follow ps xs m d in
       record {
         eachCarriedOut = f .carried (k .eachCarriedOut);
-        sameMemory = f .memories ∙ k .sameMemory ∙ sym (g .memoryIs);
-        sameRecords = f .replies ∙ k .sameRecords ∙ ap decode (sym written);
+        sameMemory = f .memories ∙ ap ahead (k .sameMemory) ∙ sym (bare m s room x g .memoryIs);
+        sameRecords = f .replies ∙ k .sameRecords ∙ ap decode (sym (written-bare m s room x g));
       }
+
+  rooms-behind : (ps : List Sent) → Each Part (partsOf ps) → joinedParts (partsOf ps) ≡ operations s → Roomy (lengthOf (x .outcome)) ps
+      → (xs : List Seen) → Called (ahead m) ps xs → CutSeen x (ahead m) xs
+  rooms-behind ps hs e roomy xs d = seen ps xs d (cut-rooms m s room o c done ps hs e (rw (sym (bare m s room x g .written)) roomy))
+
+  one-behind : (parts : List (List ℕ)) → Each Part parts → joinedParts parts ≡ operations s → (xs : List Seen) → CalledInOne (ahead m) room parts xs → CutSeen x (ahead m) xs
+  one-behind parts hs e xs d = seen (inOneRoom m room parts) xs (in-one m room parts xs d) (cut m s room o c done parts hs e)
+
+-- and so on whatever is lent, since nothing is carried out on what is not in form B
+module _ (b s room : List ℕ) (x : Seen) (o : Octets s) (c : isCommand s ≡ true) (g : Allows (message b s room) x) (n : numberOf (x .outcome) ≡ 0) where
+  in-form : b ≡ ahead (behind b)
+  unfolding givesLent asksForm
+  in-form = not-1-formed b (takeMessage s room) refl (λ e. absurd (omega (arith, n, g .number, e))) .0
 
   -- a room for each part, none shorter than the whole reply
   pub cut-reached-rooms : (ps : List Sent) → Each Part (partsOf ps) → joinedParts (partsOf ps) ≡ operations s → Roomy (lengthOf (x .outcome)) ps
-      → (xs : List Seen) → Called m ps xs → CutSeen x m xs
-  cut-reached-rooms ps hs e roomy xs d = seen ps xs d (cut-rooms m s room o c done ps hs e (rw (sym (g .written)) roomy))
+      → (xs : List Seen) → Called b ps xs → CutSeen x b xs
+  cut-reached-rooms ps hs e roomy xs d =
+      let k = rooms-behind (behind b) s room x o c (rw in-form at g) n ps hs e roomy xs (rw in-form at d) in
+      rw (sym in-form) at k
 
   -- one room
-  pub cut-reached : (parts : List (List ℕ)) → Each Part parts → joinedParts parts ≡ operations s → (xs : List Seen) → CalledInOne m room parts xs → CutSeen x m xs
-  cut-reached parts hs e xs d = seen (inOneRoom m room parts) xs (in-one m room parts xs d) (cut m s room o c done parts hs e)
+  pub cut-reached : (parts : List (List ℕ)) → Each Part parts → joinedParts parts ≡ operations s → (xs : List Seen) → CalledInOne b room parts xs → CutSeen x b xs
+  cut-reached parts hs e xs d =
+      let k = one-behind (behind b) s room x o c (rw in-form at g) n parts hs e xs (rw in-form at d) in
+      rw (sym in-form) at k

@@ -1,7 +1,7 @@
 // The endpoint of a port: all that a host calls.
 //
-// The host keeps one port's memory, 2,100 octets, and lends it to each call; where a call writes, it is lent a room as
-// well. Nothing else is kept between calls, so whoever saves those octets has saved the port. Any lengths and any octets
+// The host keeps one port's memory in form B, 2,101 octets, and lends it to each call; where a call writes, it is lent a
+// room as well. Nothing else is kept between calls, so whoever saves those octets has saved the port. Any lengths and any octets
 // may be lent, in any order of calls: each call ends, and one that refuses changes no lent octet.
 //
 //   make_fresh    before the first use, and to begin anew: it asks for the length alone, so it also mends unsound memory
@@ -20,6 +20,8 @@
 //
 // No call asks for anything: none has a `requires`. Each contract says by a definition of `meaning` under the call's name
 // what is answered and what every lent octet holds afterwards, and allows one outcome alone (`one-outcome`, in `OneOutcome`).
+//
+// Each call tests what it is lent and lends the memory behind the first octet on, to a function that knows of no form.
 ghost use Prim.Native.Nat.{_≤_};
 ghost use mathlib.Core.Path.{_≡_};
 ghost use mathlib.Core.Bool.{true};
@@ -30,15 +32,16 @@ ghost use Rattle.meaning.specs.Wire.{typeCommand, messageMost};
 ghost use Rattle.meaning.specs.Memory.{sound};
 ghost use Rattle.meaning.specs.Operation.{parse, isSome};
 ghost use Rattle.meaning.specs.Delay.{delay};
-ghost use Rattle.meaning.specs.Calls.{message, localValue, build, expiry, makeFresh};
+ghost use Rattle.meaning.specs.Calls.{message, localValue, build, expiry};
+ghost use Rattle.meaning.specs.FormB as formB;
 ghost use Rattle.endpoint.specs.Outcomes.{numberOf, lengthOf, positionOf, Gives, acknowledgement, command};
 use delay::Nanoseconds;
 use notification::Moment;
 use operation::Wholeness;
 
-// What a host lends and keeps, in octets: the memory of a port; the longest message that is not refused for its length; a
+// What a host lends and keeps, in octets: the memory of a port, in form B; the longest message that is not refused for its length; a
 // room that takes every reply; a room that a notification is built in, and the longest notification, which is to be kept.
-pub const MEMORY_LENGTH: usize = table::MEMORY_LENGTH;
+pub const MEMORY_LENGTH: usize = table::FORM_LENGTH;
 
 pub const MESSAGE_MOST: usize = wire::MESSAGE_MOST;
 
@@ -48,13 +51,17 @@ pub const NOTIFICATION_ROOM: usize = wire::NOTIFICATION_ROOM;
 
 pub const NOTIFICATION_MOST: usize = wire::NOTIFICATION_MOST;
 
-// Where the running block stands in memory: an octet whose lowest bit says that one runs, two octets with its length, and
+// Where the running block stands in what a host keeps: an octet whose lowest bit says that one runs, two octets with its length, and
 // the block itself.
-pub const RUNNING_FLAGS_AT: usize = table::CELL_LENGTH * table::COMMIT + table::FLAGS_AT;
+pub const RUNNING_FLAGS_AT: usize = table::BEHIND_AT
+    + table::CELL_LENGTH * table::COMMIT
+    + table::FLAGS_AT;
 
-pub const RUNNING_LENGTH_AT: usize = table::CELL_LENGTH * table::COMMIT + table::SIZE_AT;
+pub const RUNNING_LENGTH_AT: usize = table::BEHIND_AT
+    + table::CELL_LENGTH * table::COMMIT
+    + table::SIZE_AT;
 
-pub const RUNNING_AT: usize = table::RUNNING_AT;
+pub const RUNNING_AT: usize = table::BEHIND_AT + table::RUNNING_AT;
 
 // What a call answers: done, with the length of what it wrote; twelve reasons why nothing was done, a malformed operation
 // with its position in the message; that a waiting notification is to be sent again, or has been given up.
@@ -140,7 +147,7 @@ fn carry_out(memory: &mut [u8], list: &[u8], room: &mut [u8]) -> Outcome
     requires { ⌜ (sound (now memory) ≡ true) × (isSome (parse (now list)) ≡ true) × (length (now list) ≤ messageMost) ⌝ }
     ensures { λ r. ⌜ Gives (command (now (memory .entry)) (now (list .entry)) (now (room .entry))) r (now (memory .exit)) (now (room .exit)) ⌝ }
 {
-    let mut copy = [0u8; MEMORY_LENGTH];
+    let mut copy = [0u8; table::MEMORY_LENGTH];
     let taken = tally::take(memory, list, &mut copy);
     let t = taken.tally;
     let n = tally::reply_length(t);
@@ -174,13 +181,11 @@ fn take_command(memory: &mut [u8], sent: &[u8], room: &mut [u8]) -> Outcome
     }
 }
 
-// A message taken: a command or an acknowledgement.
-pub fn message(memory: &mut [u8], sent: &[u8], room: &mut [u8]) -> Outcome
+// A message: a command or an acknowledgement.
+fn take_message(memory: &mut [u8], sent: &[u8], room: &mut [u8]) -> Outcome
+    requires { ⌜ sound (now memory) ≡ true ⌝ }
     ensures { λ r. ⌜ Gives (message (now (memory .entry)) (now (sent .entry)) (now (room .entry))) r (now (memory .exit)) (now (room .exit)) ⌝ }
 {
-    if !soundness::sound(memory) {
-        return Outcome::MemoryUnsound;
-    }
     if sent.len() < 1 {
         return Outcome::MessageEmpty;
     }
@@ -194,13 +199,11 @@ pub fn message(memory: &mut [u8], sent: &[u8], room: &mut [u8]) -> Outcome
     }
 }
 
-// A local value taken: a name that the port sets, and its value, or none to make it absent.
-pub fn local_value(memory: &mut [u8], name: usize, value: &[u8]) -> Outcome
+// A local value.
+fn take_value(memory: &mut [u8], name: usize, value: &[u8]) -> Outcome
+    requires { ⌜ sound (now memory) ≡ true ⌝ }
     ensures { λ r. ⌜ Gives (localValue (now (memory .entry)) name (now (value .entry))) r (now (memory .exit)) [] ⌝ }
 {
-    if !soundness::sound(memory) {
-        return Outcome::MemoryUnsound;
-    }
     if !local::permitted(name, value) {
         return Outcome::NotPermitted;
     }
@@ -208,13 +211,11 @@ pub fn local_value(memory: &mut [u8], name: usize, value: &[u8]) -> Outcome
     Outcome::Done(0)
 }
 
-// A notification built of all that is pending. It is to be sent, and waits for its acknowledgement.
-pub fn build(memory: &mut [u8], room: &mut [u8]) -> Outcome
+// A notification of all that is pending.
+fn build_due(memory: &mut [u8], room: &mut [u8]) -> Outcome
+    requires { ⌜ sound (now memory) ≡ true ⌝ }
     ensures { λ r. ⌜ Gives (build (now (memory .entry)) (now (room .entry))) r (now (memory .exit)) (now (room .exit)) ⌝ }
 {
-    if !soundness::sound(memory) {
-        return Outcome::MemoryUnsound;
-    }
     if room.len() < NOTIFICATION_ROOM {
         return Outcome::NotificationRoomTooSmall;
     }
@@ -230,13 +231,11 @@ pub fn build(memory: &mut [u8], room: &mut [u8]) -> Outcome
     Outcome::Done(end)
 }
 
-// A timer expiry taken, of the timer that runs from the sending of a notification.
-pub fn expiry(memory: &mut [u8]) -> Outcome
+// A timer expiry.
+fn take_expiry(memory: &mut [u8]) -> Outcome
+    requires { ⌜ sound (now memory) ≡ true ⌝ }
     ensures { λ r. ⌜ Gives (expiry (now (memory .entry))) r (now (memory .exit)) [] ⌝ }
 {
-    if !soundness::sound(memory) {
-        return Outcome::MemoryUnsound;
-    }
     if !memory::waiting(memory) {
         return Outcome::Idle;
     }
@@ -249,14 +248,55 @@ pub fn expiry(memory: &mut [u8]) -> Outcome
     Outcome::GivenUp
 }
 
+// A message taken: a command or an acknowledgement.
+pub fn message(memory: &mut [u8], sent: &[u8], room: &mut [u8]) -> Outcome
+    ensures { λ r. ⌜ Gives (formB.message (now (memory .entry)) (now (sent .entry)) (now (room .entry))) r (now (memory .exit)) (now (room .exit)) ⌝ }
+{
+    if !soundness::sound_form_b(memory) {
+        return Outcome::MemoryUnsound;
+    }
+    take_message(&mut memory[table::BEHIND_AT..], sent, room)
+}
+
+// A local value taken: a name that the port sets, and its value, or none to make it absent.
+pub fn local_value(memory: &mut [u8], name: usize, value: &[u8]) -> Outcome
+    ensures { λ r. ⌜ Gives (formB.localValue (now (memory .entry)) name (now (value .entry))) r (now (memory .exit)) [] ⌝ }
+{
+    if !soundness::sound_form_b(memory) {
+        return Outcome::MemoryUnsound;
+    }
+    take_value(&mut memory[table::BEHIND_AT..], name, value)
+}
+
+// A notification built of all that is pending. It is to be sent, and waits for its acknowledgement.
+pub fn build(memory: &mut [u8], room: &mut [u8]) -> Outcome
+    ensures { λ r. ⌜ Gives (formB.build (now (memory .entry)) (now (room .entry))) r (now (memory .exit)) (now (room .exit)) ⌝ }
+{
+    if !soundness::sound_form_b(memory) {
+        return Outcome::MemoryUnsound;
+    }
+    build_due(&mut memory[table::BEHIND_AT..], room)
+}
+
+// A timer expiry taken, of the timer that runs from the sending of a notification.
+pub fn expiry(memory: &mut [u8]) -> Outcome
+    ensures { λ r. ⌜ Gives (formB.expiry (now (memory .entry))) r (now (memory .exit)) [] ⌝ }
+{
+    if !soundness::sound_form_b(memory) {
+        return Outcome::MemoryUnsound;
+    }
+    take_expiry(&mut memory[table::BEHIND_AT..])
+}
+
 // Memory made fresh, whatever it holds.
 pub fn make_fresh(memory: &mut [u8]) -> Outcome
-    ensures { λ r. ⌜ Gives (makeFresh (now (memory .entry))) r (now (memory .exit)) [] ⌝ }
+    ensures { λ r. ⌜ Gives (formB.makeFresh (now (memory .entry))) r (now (memory .exit)) [] ⌝ }
 {
     if memory.len() != MEMORY_LENGTH {
         return Outcome::MemoryUnsound;
     }
-    memory::make_fresh(memory);
+    memory[table::FORM_AT] = table::FORM_B;
+    memory::make_fresh(&mut memory[table::BEHIND_AT..]);
     Outcome::Done(0)
 }
 

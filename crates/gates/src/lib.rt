@@ -5,7 +5,9 @@ ghost use mathlib.Core.Path.{_≡_};
 ghost use mathlib.Core.Bool.{true};
 ghost use lib.ListN.{length};
 ghost use Rattle.meaning.specs.Block.{formAndFit};
+ghost use Rattle.meaning.specs.Memory.{sound};
 ghost use Rattle.meaning.specs.Gates.{entryAt, gatesOf, gates, gatesNumber};
+ghost use Rattle.meaning.specs.FormB as formB;
 ghost use Rattle.gates.specs.Answers.{refusalNumber, answerOf};
 
 // Why there is no answer: the memory is not that of a port, or no block runs.
@@ -75,15 +77,23 @@ fn ask(block: &[u8], instant: i64) -> Gates
     entry_at(schedule::list_of(block), time, cycle)
 }
 
-// Which gates are open at an instant, in nanoseconds from the base time.
-pub fn gates_at(memory: &[u8], instant: i64) -> Gates
-    ensures { λ r. ⌜ answerOf r ≡ gates (now (memory .entry)) instant ⌝ }
+// What the memory of a port answers: its running block, if there is one.
+fn ask_memory(m: &[u8], instant: i64) -> Gates
+    requires { ⌜ sound (now m) ≡ true ⌝ }
+    ensures { λ r. ⌜ answerOf r ≡ gates (now (m .entry)) instant ⌝ }
 {
-    if !soundness::sound(memory) {
-        return Gates::Refused(Refusal::MemoryUnsound);
-    }
-    if !memory::present(memory, table::COMMIT) {
+    if !memory::present(m, table::COMMIT) {
         return Gates::Refused(Refusal::NothingRuns);
     }
-    ask(memory::body(memory, table::COMMIT), instant)
+    ask(memory::body(m, table::COMMIT), instant)
+}
+
+// Which gates are open at an instant, in nanoseconds from the base time.
+pub fn gates_at(memory: &[u8], instant: i64) -> Gates
+    ensures { λ r. ⌜ answerOf r ≡ formB.gates (now (memory .entry)) instant ⌝ }
+{
+    if !soundness::sound_form_b(memory) {
+        return Gates::Refused(Refusal::MemoryUnsound);
+    }
+    ask_memory(&memory[table::BEHIND_AT..], instant)
 }

@@ -55,3 +55,6 @@ pub mod Instants
 pub mod Holding
 pub mod Cycles
 pub mod Driven
+pub mod Formed
+pub mod Moved
+pub mod Forms

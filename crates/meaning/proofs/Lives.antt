@@ -32,13 +32,13 @@ lived m (c ∷ cs) =
     andThen o (lived (o .memory) cs)
 
 -- whether two lives are alike, octet by octet. A statement over it is short also where it is false, which a list of 2,100 octets is not
-unfoldable sameOctets : List ℕ → List ℕ → Bool
+unfoldable pub sameOctets : List ℕ → List ℕ → Bool
 sameOctets [] [] = true
 sameOctets [] (y ∷ ys) = false
 sameOctets (x ∷ xs) [] = false
 sameOctets (x ∷ xs) (y ∷ ys) = eqb x y && sameOctets xs ys
 
-unfoldable sameResults : List Result → List Result → Bool
+unfoldable pub sameResults : List Result → List Result → Bool
 unfolding sameOctets
 sameResults [] [] = true
 sameResults [] (y ∷ ys) = false

@@ -37,7 +37,7 @@ first-among passed = refl
 first-among (check k true cs) = inr (first-among cs)
 first-among (check k false cs) = inl refl
 
-call-among : (cs : Checks) (o : Outcome) (m room : List ℕ) → o .number ≡ 0 → Among (call cs o m room .number) cs
+pub call-among : (cs : Checks) (o : Outcome) (m room : List ℕ) → o .number ≡ 0 → Among (call cs o m room .number) cs
 call-among cs o m room z =
     call-either (λ r. Among (r .number) cs) cs o m room (λ e. rw (z, sym e) (first-among cs)) (λ f e. rw (sym e) (first-among cs))
 
@@ -174,7 +174,7 @@ pub record RoomAfter (o : Outcome) (room : List ℕ) : Type 0 where
   pub long : length (o .room) ≡ length room
   pub after : o .room ≡ o .written ++ drop (length (o .written)) room
 
-call-room : (cs : Checks) (w m′ m room : List ℕ) → (firstFailed cs ≡ 0 → length w ≤ length room) → RoomAfter (call cs (done w m′ room) m room) room
+pub call-room : (cs : Checks) (w m′ m room : List ℕ) → (firstFailed cs ≡ 0 → length w ≤ length room) → RoomAfter (call cs (done w m′ room) m room) room
 call-room cs w m′ m room h =
     call-either (λ o. RoomAfter o room) cs (done w m′ room) m room
     (λ e. record { inRoom = h e; long = done-room w m′ room (h e); after = refl })

@@ -1,6 +1,7 @@
 -- Laws of tests: a list of tests taken apart, a test at each place of a table, and the first check that fails.
-use Prim.Native.Nat.{ℕ, zero, suc, _<_}
+use Prim.Native.Nat.{ℕ, zero, suc, _+_, _<_}
 use native.Mathlib.Omega.{arith}
+use native.Mathlib.Numerals.{add-one}
 use native.Mathlib.Decide.{ℕ-discrete}
 use mathlib.Core.Path.{_≡_, refl, sym, ap, _∙_}
 use mathlib.Core.Logic.{_⊎_, inl, inr}
@@ -88,6 +89,10 @@ below-at (suc n) f e k h = at (ℕ-discrete k n) (λ l. below-at n f (and-left (
     at : Dec (k ≡ n) → (k < n → f k ≡ true) → f k ≡ true
     at (yes p) ih = ap f p ∙ and-right (below n f) (f n) e
     at (no p) ih = ih (omega arith)
+
+pub below-more : (f : ℕ → Bool) (k : ℕ) → (below k f && f k) ≡ below (k + 1) f
+unfolding below
+below-more f k = rw add-one
 
 pub below-all : (n : ℕ) (f : ℕ → Bool) → ((k : ℕ) → k < n → f k ≡ true) → below n f ≡ true
 unfolding below

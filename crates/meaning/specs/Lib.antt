@@ -11,4 +11,6 @@ pub mod Step
 pub mod Reply
 pub mod Calls
 pub mod Gates
+pub mod FormB
+pub mod Moves
 pub mod Capture

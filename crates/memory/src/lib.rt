@@ -9,6 +9,7 @@ ghost use Rattle.meaning.specs.Octets.{octet, be16, splice};
 ghost use Rattle.meaning.specs.Table.{entryCount, memoryLength, rowAt, adminBaseTime, adminControlListLength, adminCycleTime, commit};
 ghost use Rattle.meaning.specs.Memory.{flagsAt, flagLimit, cell, room, isPresent, isSubscribed, isPending, size, present, subscribed, pending, inFlight, body, waiting, expiries, bit, flags, putCell, putRoom, put, store, setMarks, setTimer, fourPresent, absent, fresh};
 ghost use Rattle.meaning.specs.Step.{block};
+ghost use Rattle.meaning.specs.Moves.{noneInFlight};
 
 // ---- what memory says of a parameter
 
@@ -118,6 +119,20 @@ pub fn flags(m: &[u8], k: usize) -> u8
     ensures { λ r. ⌜ (r ≡ octet (now (m .entry)) (flagsAt k) % flagLimit) × (r < flagLimit) ⌝ }
 {
     m[table::CELL_LENGTH * k + table::FLAGS_AT] % table::FLAG_LIMIT
+}
+
+// Whether no change is in flight.
+pub fn none_in_flight(m: &[u8]) -> bool
+    requires { ⌜ length (now m) ≡ memoryLength ⌝ }
+    ensures { λ r. ⌜ r ≡ noneInFlight (now (m .entry)) ⌝ }
+{
+    let mut none = true;
+    let mut k: usize = 0;
+    while k < table::ENTRY_COUNT {
+        none = none & (flags(m, k) < table::IN_FLIGHT);
+        k += 1;
+    }
+    none
 }
 
 // Whether the four values of a block are there (RULES 5.12).

@@ -6,8 +6,8 @@ use native.Mathlib.Omega.{arith}
 use native.Mathlib.Numerals.{add-one}
 use mathlib.Core.Path.{_≡_, refl, sym, ap, _∙_}
 use mathlib.Core.List.{List, [], _∷_, _++_, append-assoc, append-nil}
-use lib.ListN.{length, take, drop, set, length-append, take-append-drop, drop-of-length-le}
-use lib.Seq.{take-at, take-append-le, drop-append-le, drop-append-add, drop-drop, length-take-le, take-length, drop-cons, sets-eq}
+use lib.ListN.{length, take, drop, set, length-append, length-drop, take-append-drop, drop-of-length-le}
+use lib.Seq.{take-at, take-append-le, drop-append-le, drop-append-add, drop-drop, length-take-le, take-all, take-length, drop-cons, sets-eq}
 use borrow.Rule.Slice.PartMut.{putMid, post-is}
 use Rattle.meaning.specs.Octets.{octet, part, splice}
 use Rattle.meaning.proofs.Lists.{length-part, octet-part, splice-length, splice-before}
@@ -124,6 +124,10 @@ unfolding part
 part-is s a n =
     let e : a + n - a ≡ n = omega arith in
     rw e
+
+-- all that follows the first k octets
+pub rest-is : (s : List ℕ) (k : ℕ) → take (length s - k) (drop k s) ≡ drop k s
+rest-is s k = take-all (length s - k) (drop k s) (simp length-drop (omega arith))
 
 -- a part that was lent comes back: the octets with the part's new ones in them
 pub lent-back : (m ys : List ℕ) (a e : ℕ) → a ≤ e → length ys ≡ e - a → putMid a (e - a) m ys ≡ splice m a ys

@@ -1,16 +1,17 @@
 -- An instruction taken in the program is one piece taken, and a faulty one is the last; what is known of the rest.
 use Prim.Native.Nat.{ℕ, _+_, _-_, _≤_, _<_}
 use native.Mathlib.Omega.{arith}
-use mathlib.Core.Path.{_≡_, ap, subst}
+use mathlib.Core.Path.{_≡_, sym, ap, subst, _∙_}
 use mathlib.Core.Bool.{true}
 use mathlib.Core.List.{List, [], _++_}
 use lib.ListN.{length, take, drop}
 use Rattle.meaning.specs.Octets.{octet}
-use Rattle.meaning.specs.Table.{memoryLength}
 use Rattle.meaning.specs.Memory.{fresh}
-use Rattle.meaning.specs.Calls.{Outcome, makeFresh}
+use Rattle.meaning.specs.Calls.{Outcome}
+use Rattle.meaning.specs.FormB.{formLength, ahead, makeFresh}
+use Rattle.meaning.proofs.Contents.{fresh-spelt}
+use Rattle.meaning.proofs.Formed.{makeFresh-forms}
 use Rattle.octets.specs.Writing.{Wrote}
-use Rattle.endpoint.proofs.Exits.{fresh-does}
 use Rattle.stdio.specs.Pieces.{needed, cutLine}
 use Rattle.stdio.specs.Taking.{Piece, Between, pieceAt, wholeAt, goesOn, lineAt, next, taken, lines, Faulty}
 use Rattle.stdio.proofs.Taking.{Joins, turn, cut-off, cut-out}
@@ -52,5 +53,5 @@ rest held p memory room {from} {lends} e f =
     (g .1, omega (arith, g .2 .1), g .3)
 
 -- memory of the right length made fresh
-pub made-fresh : (m : List ℕ) → length m ≡ memoryLength → makeFresh m .memory ≡ fresh
-made-fresh m h = ap (λ (o : Outcome). o .memory) (fresh-does m h)
+pub made-fresh : (b : List ℕ) → length b ≡ formLength → makeFresh b .memory ≡ ahead fresh
+made-fresh b h = ap (λ (o : Outcome). o .memory) (makeFresh-forms b h) ∙ sym (ap ahead fresh-spelt)

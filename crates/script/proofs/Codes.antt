@@ -11,49 +11,45 @@ use lib.Dec.{eqb, leb}
 use borrow.Author.Tests.{leb-true, eqb-true, eq-eqb}
 use Rattle.meaning.specs.Octets.{at16}
 use Rattle.meaning.specs.Delay.{delay}
-use Rattle.meaning.specs.Calls.{Outcome, makeFresh, message, localValue, build, expiry}
-use Rattle.meaning.specs.Gates.{gates}
-use Rattle.meaning.proofs.Refused.{RoomAfter, message-room, build-room, localValue-room, expiry-room, makeFresh-room}
-use Rattle.meaning.proofs.Positions.{position-most, localValue-nowhere, build-nowhere, expiry-nowhere, makeFresh-nowhere}
+use Rattle.meaning.specs.Calls.{Outcome}
+use Rattle.meaning.specs.FormB.{makeFresh, message, localValue, build, expiry, gates}
+use Rattle.meaning.proofs.Refused.{RoomAfter}
+use Rattle.meaning.proofs.Sendings.{refresh, takeMessage, takeValue, buildIn, takeExpiry}
+use Rattle.meaning.proofs.Formed.{givesLent, roomOf, lent-room, lent-position}
 use Rattle.endpoint.specs.Outcomes.{Gives}
 use Rattle.endpoint.specs.declared.Outcome as answers
 use Rattle.text.specs.Lines.{octetsLine, lentLine}
-use Rattle.script.specs.Instructions.{bodyRight, anew, nanoseconds, instant, gatesLine, printed, callOf, roomFor, alone, called, answered, effect}
+use Rattle.script.specs.Instructions.{bodyRight, anew, nanoseconds, instant, gatesLine, printed, callOf, roomFor, alone, called, answered, movedBy, effect}
 
 -- ---- bodies
 
-pub unknown : (code n : ℕ) → 11 ≤ code → bodyRight code n ≡ false
+unknown : (code n : ℕ) → 13 ≤ code → bodyRight code n ≡ false
 unfolding bodyRight
 unknown code n h =
-    let tests : List Bool = eqb n 0 ∷ leb 2 n ∷ leb 2 n ∷ eqb n 2 ∷ eqb n 0 ∷ leb n 2200 ∷ eqb n 0 ∷ eqb n 0 ∷ eqb n 8 ∷ leb 2 n ∷ eqb n 8 ∷ [] in
+    let tests : List Bool = eqb n 0 ∷ leb 2 n ∷ leb 2 n ∷ eqb n 2 ∷ eqb n 0 ∷ leb n 2200 ∷ eqb n 0 ∷ eqb n 0 ∷ eqb n 8 ∷ leb 2 n ∷ eqb n 8 ∷ eqb n 2 ∷ eqb n 2 ∷ [] in
     List·getD-eq-default tests false h
 
 beyond : (k code : ℕ) → k ≤ code → (code ≡ k → ⊥) → k + 1 ≤ code
 beyond k code h f = omega arith
 
--- a code that is none of the eleven
-pub other : (code n : ℕ) → ((((((((((Unit {0} × (code ≡ 0 → ⊥)) × (code ≡ 1 → ⊥)) × (code ≡ 2 → ⊥)) × (code ≡ 3 → ⊥)) × (code ≡ 4 → ⊥)) × (code ≡ 5 → ⊥)) × (code ≡ 6 → ⊥)) × (code ≡ 7 → ⊥)) × (code ≡ 8 → ⊥)) × (code ≡ 9 → ⊥)) × (code ≡ 10 → ⊥) → bodyRight code n ≡ false
+-- a code that is none of the thirteen
+pub other : (code n : ℕ) → ((((((((((((Unit {0} × (code ≡ 0 → ⊥)) × (code ≡ 1 → ⊥)) × (code ≡ 2 → ⊥)) × (code ≡ 3 → ⊥)) × (code ≡ 4 → ⊥)) × (code ≡ 5 → ⊥)) × (code ≡ 6 → ⊥)) × (code ≡ 7 → ⊥)) × (code ≡ 8 → ⊥)) × (code ≡ 9 → ⊥)) × (code ≡ 10 → ⊥)) × (code ≡ 11 → ⊥)) × (code ≡ 12 → ⊥) → bodyRight code n ≡ false
 other code n r =
     let h0 : 0 ≤ code = omega arith in
-    let h1 = beyond 0 code h0 (r .0 .0 .0 .0 .0 .0 .0 .0 .0 .0 .1) in
-    let h2 = beyond 1 code h1 (r .0 .0 .0 .0 .0 .0 .0 .0 .0 .1) in
-    let h3 = beyond 2 code h2 (r .0 .0 .0 .0 .0 .0 .0 .0 .1) in
-    let h4 = beyond 3 code h3 (r .0 .0 .0 .0 .0 .0 .0 .1) in
-    let h5 = beyond 4 code h4 (r .0 .0 .0 .0 .0 .0 .1) in
-    let h6 = beyond 5 code h5 (r .0 .0 .0 .0 .0 .1) in
-    let h7 = beyond 6 code h6 (r .0 .0 .0 .0 .1) in
-    let h8 = beyond 7 code h7 (r .0 .0 .0 .1) in
-    let h9 = beyond 8 code h8 (r .0 .0 .1) in
-    let h10 = beyond 9 code h9 (r .0 .1) in
-    let h11 = beyond 10 code h10 (r .1) in
-    unknown code n h11
-
-pub known : (code n : ℕ) → bodyRight code n ≡ true → code < 11
-known code n e = at (decLe 11 code)
-  where
-    at : Dec (11 ≤ code) → code < 11
-    at (yes h) = absurd (false≢true (sym (unknown code n h) ∙ e))
-    at (no h) = omega arith
+    let h1 = beyond 0 code h0 (r .0 .0 .0 .0 .0 .0 .0 .0 .0 .0 .0 .0 .1) in
+    let h2 = beyond 1 code h1 (r .0 .0 .0 .0 .0 .0 .0 .0 .0 .0 .0 .1) in
+    let h3 = beyond 2 code h2 (r .0 .0 .0 .0 .0 .0 .0 .0 .0 .0 .1) in
+    let h4 = beyond 3 code h3 (r .0 .0 .0 .0 .0 .0 .0 .0 .0 .1) in
+    let h5 = beyond 4 code h4 (r .0 .0 .0 .0 .0 .0 .0 .0 .1) in
+    let h6 = beyond 5 code h5 (r .0 .0 .0 .0 .0 .0 .0 .1) in
+    let h7 = beyond 6 code h6 (r .0 .0 .0 .0 .0 .0 .1) in
+    let h8 = beyond 7 code h7 (r .0 .0 .0 .0 .0 .1) in
+    let h9 = beyond 8 code h8 (r .0 .0 .0 .0 .1) in
+    let h10 = beyond 9 code h9 (r .0 .0 .0 .1) in
+    let h11 = beyond 10 code h10 (r .0 .0 .1) in
+    let h12 = beyond 11 code h11 (r .0 .1) in
+    let h13 = beyond 12 code h12 (r .1) in
+    unknown code n h13
 
 module _ {code n : ℕ} (r : bodyRight code n ≡ true) where
   pub message-body : code ≡ 1 → 2 ≤ n
@@ -82,6 +78,19 @@ module _ {code n : ℕ} (r : bodyRight code n ≡ true) where
   unfolding bodyRight
   gates-body e = eqb-true n 8 (rw e at r)
 
+-- a code from 11 on asks for a room, and is 11 or 12
+pub move-body : (code n : ℕ) → bodyRight code n ≡ true → 11 ≤ code → (n ≡ 2) × ((code ≡ 11) ⊎ (code ≡ 12))
+unfolding bodyRight
+move-body code n r h = at (decLe 13 code)
+  where
+    at : Dec (13 ≤ code) → (n ≡ 2) × ((code ≡ 11) ⊎ (code ≡ 12))
+    at (yes l) = absurd (false≢true (sym (unknown code n l) ∙ r))
+    at (no l) = of (decLe 12 code)
+      where
+        of : Dec (12 ≤ code) → (n ≡ 2) × ((code ≡ 11) ⊎ (code ≡ 12))
+        of (yes k) = let e : code ≡ 12 = omega arith in (eqb-true n 2 (rw e at r), inr e)
+        of (no k) = let e : code ≡ 11 = omega arith in (eqb-true n 2 (rw e at r), inl e)
+
 nine-right : (n : ℕ) → bodyRight 9 n ≡ true → bodyRight 1 n ≡ true
 unfolding bodyRight
 nine-right n r = r
@@ -108,6 +117,12 @@ module _ {code : ℕ} (body m room : List ℕ) where
   pub gates-row : code ≡ 10 → effect code body m room ≡ printed (gatesLine (gates m (instant body))) m room
   unfolding effect
   gates-row e = rw e
+
+-- codes 11 and 12 are moves
+pub move-row : (code : ℕ) (body m room : List ℕ) → (code ≡ 11) ⊎ (code ≡ 12) → effect code body m room ≡ answered code (movedBy code m (anew (at16 body 0)))
+unfolding effect
+move-row code body m room (inl e) = rw e
+move-row code body m room (inr e) = rw e
 
 -- codes under 5, and 9, are calls
 by-call : (code : ℕ) (body m room : List ℕ) → (code < 5) ⊎ (code ≡ 9)
@@ -205,21 +220,21 @@ alone-room o room a = at (o .written) (a .inRoom)
     at (x ∷ w) h = absurd (omega arith)
 
 pub called-room : (code : ℕ) (body m room : List ℕ) → RoomAfter (called code body m room) room
-unfolding called
-called-room zero body m room = alone-room (makeFresh m) room (makeFresh-room m)
-called-room (suc zero) body m room = message-room m (drop 2 body) room
-called-room (suc (suc zero)) body m room = alone-room (localValue m (at16 body 0) (drop 2 body)) room (localValue-room m (at16 body 0) (drop 2 body))
-called-room (suc (suc (suc zero))) body m room = build-room m room
-called-room (suc (suc (suc (suc n)))) body m room = alone-room (expiry m) room (expiry-room m)
+unfolding called givesLent roomOf
+called-room zero body m room = alone-room (makeFresh m) room (lent-room m refresh)
+called-room (suc zero) body m room = lent-room m (takeMessage (drop 2 body) room)
+called-room (suc (suc zero)) body m room = alone-room (localValue m (at16 body 0) (drop 2 body)) room (lent-room m (takeValue (at16 body 0) (drop 2 body)))
+called-room (suc (suc (suc zero))) body m room = lent-room m (buildIn room)
+called-room (suc (suc (suc (suc n)))) body m room = alone-room (expiry m) room (lent-room m takeExpiry)
 
 pub alone-gives : (o : Outcome) (room : List ℕ) {r : answers.Outcome} {m′ : List ℕ} → Gives o r m′ [] → Gives (alone o room) r m′ room
 alone-gives o room g = record { number = g .number; written = g .written; position = g .position; memoryIs = g .memoryIs; roomIs = refl }
 
 -- no position that a call tells has more than four digits
 pub called-position : (code : ℕ) (body m room : List ℕ) → called code body m room .position < 10000
-unfolding called
-called-position zero body m room = omega (arith, makeFresh-nowhere m)
-called-position (suc zero) body m room = omega (arith, position-most m (drop 2 body) room)
-called-position (suc (suc zero)) body m room = omega (arith, localValue-nowhere m (at16 body 0) (drop 2 body))
-called-position (suc (suc (suc zero))) body m room = omega (arith, build-nowhere m room)
-called-position (suc (suc (suc (suc n)))) body m room = omega (arith, expiry-nowhere m)
+unfolding called givesLent
+called-position zero body m room = omega (arith, lent-position m refresh)
+called-position (suc zero) body m room = omega (arith, lent-position m (takeMessage (drop 2 body) room))
+called-position (suc (suc zero)) body m room = omega (arith, lent-position m (takeValue (at16 body 0) (drop 2 body)))
+called-position (suc (suc (suc zero))) body m room = omega (arith, lent-position m (buildIn room))
+called-position (suc (suc (suc (suc n)))) body m room = omega (arith, lent-position m takeExpiry)

@@ -5,7 +5,7 @@ use native.Mathlib.Omega.{arith}
 use mathlib.Core.Path.{_≡_, sym, _∙_}
 use mathlib.Core.List.{List, _++_}
 use lib.ListN.{length, take, drop, replicate, length-drop, length-replicate, take-append-drop}
-use lib.Seq.{drop-at, take-all, length-take-le}
+use lib.Seq.{drop-at, length-take-le}
 use Rattle.meaning.specs.Octets.{splice}
 use Rattle.meaning.specs.Delay.{lowFirst, delay}
 use Rattle.meaning.specs.Calls.{Outcome}
@@ -47,10 +47,6 @@ made room filled asked n e f =
     let l : 0 + length v ≡ n = zero-add (length v) ∙ length-replicate (roomLength asked) 0xA5 ∙ sym e in
     (sym l, rw (l, ← e) f)
 
--- all that follows the first k octets
-pub rest-is : (s : List ℕ) (k : ℕ) → take (length s - k) (drop k s) ≡ drop k s
-rest-is s k = take-all (length s - k) (drop k s) (simp length-drop (omega arith))
-
 pub delay-short : (n : ℕ) → length (octetsLine (delay n)) ≤ 16396
 unfolding delay lowFirst
 delay-short n = omega (arith, octets-short (delay n))
@@ -80,6 +76,21 @@ module _ (out : List ℕ) (at : ℕ) (lent : Lent) {end : ℕ} {out′ : List �
         short = s;
         lends = b;
         memoryIs = rw (← i) (front-back m (take (lent .memory) m) m′ (front-kept m (lent .memory) (omega (arith, n, b .0))) l);
+        roomIs = rw (← j) (front-back room last room′ f k);
+      })
+
+  -- a move, which leaves memory as it is
+  pub move-left : (code : ℕ) (o : Outcome) (m room′ room room₁ last : List ℕ) → d ≡ answered code o → Wrote out at (toldLine code o) end out′
+      → o .memory ≡ take (lent .memory) m → room′ ≡ o .room
+      → end ≤ at + 16396 → length m ≡ 2200 → Wrote room 0 last (lent .room) room₁ → length room′ ≡ lent .room
+      → Leaves d m room out at end lent m (room′ ++ drop (lent .room) room₁) out′
+  move-left code o m room′ room room₁ last e w i j s n f k =
+      rw e
+      (record {
+        wrote = w;
+        short = s;
+        lends = b;
+        memoryIs = rw i (front-kept m (lent .memory) (omega (arith, n, b .0)));
         roomIs = rw (← j) (front-back room last room′ f k);
       })
 

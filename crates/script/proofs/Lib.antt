@@ -3,3 +3,4 @@ pub mod Codes
 pub mod Instants
 pub mod Lend
 pub mod Told
+pub mod MoveTold

@@ -7,8 +7,10 @@ use lib.Dec.{eqb, leb, ltb}
 use lib.IntN.{ℤ, pos, negsuc}
 use Rattle.meaning.specs.Octets.{at16, at32}
 use Rattle.meaning.specs.Delay.{delay}
-use Rattle.meaning.specs.Calls.{Outcome, makeFresh, message, localValue, build, expiry}
-use Rattle.meaning.specs.Gates.{Gates, refused, notStarted, opens, gates}
+use Rattle.meaning.specs.Calls.{Outcome}
+use Rattle.meaning.specs.Gates.{Gates, refused, notStarted, opens}
+use Rattle.meaning.specs.FormB.{makeFresh, message, localValue, build, expiry, gates}
+use Rattle.meaning.specs.Moves.{forward, back}
 use Rattle.text.specs.Lines.{octetsLine, line, lentLine, openLine}
 use Rattle.answers.specs.Answers.{lineOf, fullOf}
 
@@ -23,10 +25,12 @@ bodyRight code n =
     ∷ eqb n 0  -- 04 timer expiry
     ∷ leb n 2200  -- 05 lend other memory: 0 to 2,200 octets
     ∷ eqb n 0  -- 06 show memory
-    ∷ eqb n 0  -- 07 show the room of the last message or notification
+    ∷ eqb n 0  -- 07 show the room that was made last
     ∷ eqb n 8  -- 08 delay conversion: nanoseconds (8)
     ∷ leb 2 n  -- 09 message, told in full: room length (2), message
     ∷ eqb n 8  -- 0A which gates are open: instant (8)
+    ∷ eqb n 2  -- 0B the lent memory moved forward: room length (2)
+    ∷ eqb n 2  -- 0C the lent memory moved back: room length (2)
     ∷ []) code false
 
 -- a room made anew: at most 8,192 octets, each A5
@@ -98,12 +102,18 @@ toldLine code o = cond (eqb code 9) (fullOf o) (lineOf o)
 abbrev pub answered : ℕ → Outcome → Effect
 answered code o = printed (toldLine code o) (o .memory) (o .room)
 
+-- ---- 0B and 0C: the moves, into a room made anew
+
+unfoldable pub movedBy : ℕ → List ℕ → List ℕ → Outcome
+movedBy code m room = cond (eqb code 11) (forward m room) (back m room)
+
 -- ---- every code, as above; one that is not known does nothing
 
 unfoldable pub effect : ℕ → List ℕ → List ℕ → List ℕ → Effect
 effect code body m room =
     let made = callOf code in
     let call = answered code (called made body m (roomFor made body room)) in
+    let move = answered code (movedBy code m (anew (at16 body 0))) in
     getD
     (call
     ∷ call
@@ -116,6 +126,8 @@ effect code body m room =
     ∷ printed (octetsLine (delay (nanoseconds body))) m room
     ∷ call
     ∷ printed (gatesLine (gates m (instant body))) m room
+    ∷ move
+    ∷ move
     ∷ [])
     code
     (printed [] m room)

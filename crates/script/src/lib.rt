@@ -5,14 +5,16 @@ ghost use mathlib.Core.Path.{_≡_};
 ghost use mathlib.Core.Bool.{true};
 ghost use lib.ListN.{length, take};
 ghost use Rattle.meaning.specs.Delay.{delay};
-ghost use Rattle.meaning.specs.Gates.{gates};
+ghost use Rattle.meaning.specs.FormB.{gates};
 ghost use Rattle.octets.specs.Writing.{Wrote};
 ghost use Rattle.endpoint.specs.Outcomes.{lengthOf, positionOf, Gives};
 ghost use Rattle.gates.specs.Answers.{answerOf};
-ghost use Rattle.text.specs.Lines.{octetsLine};
-ghost use Rattle.script.specs.Instructions.{bodyRight, roomLength, anew, roomFor, callOf, called, nanoseconds, instant, gatesLine};
+ghost use Rattle.moves.specs.Moved as moved;
+ghost use Rattle.text.specs.Lines.{octetsLine, line};
+ghost use Rattle.script.specs.Instructions.{bodyRight, roomLength, anew, roomFor, callOf, called, nanoseconds, instant, gatesLine, movedBy};
 ghost use Rattle.script.specs.Takes.{toldAnswer, Ready, Takes};
 use gates::Gates;
+use moves::Moved;
 
 // Most octets that can be lent as memory.
 pub const MOST_LENT: usize = 2200;
@@ -28,8 +30,10 @@ const ROOM_FILL: u8 = 0xA5;
 const MESSAGE: u8 = 1;
 
 const IN_FULL: u8 = 9;
+// The code of the move forward. That of the move back follows, and there is no other behind them.
+const FORWARD: u8 = 11;
 
-// How many octets are lent as memory, and how many the room of the last message or notification has.
+// How many octets are lent as memory, and how many the room that was made last has.
 pub struct Lent {
     pub memory: usize,
     pub room: usize,
@@ -57,6 +61,8 @@ fn body_right(code: u8, n: usize) -> bool
         8 => n == 8,
         9 => 2 <= n,
         10 => n == 8,
+        11 => n == 2,
+        12 => n == 2,
         _ => false,
     }
 }
@@ -185,6 +191,45 @@ fn show_gates(memory: &[u8], body: &[u8], out: &mut [u8], at: usize) -> usize
     write_gates(out, at, gates::gates_at(memory, instant(body)))
 }
 
+// The moves of memory into a room, by their instructions' codes.
+fn move_memory(memory: &[u8], room: &mut [u8], code: u8) -> Moved
+    ensures { λ r. ⌜ moved.Gives (movedBy code (now (memory .entry)) (now (room .entry))) r (now (memory .entry)) (now (room .exit)) ⌝ }
+{
+    if code == FORWARD {
+        return moves::forward(memory, room);
+    }
+    moves::back(memory, room)
+}
+
+// The line of a move's answer.
+fn write_move(out: &mut [u8], at: usize, answer: Moved, room: &[u8]) -> usize
+    requires { ⌜ (moved.lengthOf answer ≤ length (now room)) × (at + (length (now room) + length (now room) + 5) ≤ length (now out)) ⌝ }
+    ensures { λ r. ⌜ Wrote (now (out .entry)) at (line (moved.numberOf answer) (take (moved.lengthOf answer) (now (room .entry)))) r (now (out .exit)) ⌝ }
+{
+    let n = moves::written(answer);
+    text::write_line(out, at, moves::number(answer), &room[..n])
+}
+
+// The instructions that move the memory that is lent, which stays as it is.
+fn take_move(
+    memory: &[u8],
+    room: &mut [u8],
+    lent: Lent,
+    code: u8,
+    body: &[u8],
+    out: &mut [u8],
+    at: usize,
+) -> Took
+    requires { ⌜ Ready (now memory) (now room) lent (now out) at × (bodyRight code (length (now body)) ≡ true) × (11 ≤ code) ⌝ }
+    ensures { λ r. ⌜ Takes code (now (body .entry)) (now (memory .entry)) (now (room .entry)) lent (now (out .entry)) at r (now (memory .entry)) (now (room .exit)) (now (out .exit)) ⌝ }
+{
+    let m = lent.memory;
+    let n = make_room(room, octets::get16(body, 0));
+    let answer = move_memory(&memory[..m], &mut room[..n], code);
+    let end = write_move(out, at, answer, &room[..n]);
+    Took::Line(end, Lent { memory: m, room: n })
+}
+
 // The instructions that are no calls over memory.
 fn take_other(
     memory: &mut [u8],
@@ -195,7 +240,7 @@ fn take_other(
     out: &mut [u8],
     at: usize,
 ) -> Took
-    requires { ⌜ Ready (now memory) (now room) lent (now out) at × (bodyRight code (length (now body)) ≡ true) × (5 ≤ callOf code) ⌝ }
+    requires { ⌜ Ready (now memory) (now room) lent (now out) at × (bodyRight code (length (now body)) ≡ true) × (5 ≤ callOf code) × (code < 11) ⌝ }
     ensures { λ r. ⌜ Takes code (now (body .entry)) (now (memory .entry)) (now (room .entry)) lent (now (out .entry)) at r (now (memory .exit)) (now (room .entry)) (now (out .exit)) ⌝ }
 {
     let m = lent.memory;
@@ -228,6 +273,9 @@ pub fn take_instruction(
 {
     if !body_right(code, body.len()) {
         return Took::Faulty;
+    }
+    if FORWARD <= code {
+        return take_move(memory, room, lent, code, body, out, at);
     }
     let made = call_of(code);
     if 5 <= made {

@@ -2,7 +2,6 @@
 use Prim.Native.Nat.{ℕ, zero, suc, _+_, _-_, _/_, _%_, _≤_, _<_}
 use native.Mathlib.Omega.{arith}
 use native.Mathlib.Nat.{add-zero, add-suc, sub-zero}
-use native.Mathlib.Numerals.{add-one}
 use native.Mathlib.Decide.{decLe}
 use mathlib.Core.Path.{_≡_, refl, sym, ap}
 use mathlib.Core.Bool.{Bool, true, false, _&&_, _||_, not, cond, and-true, and-assoc, and-comm}
@@ -17,10 +16,6 @@ use Rattle.meaning.specs.Block.{permits}
 use Rattle.meaning.specs.Memory.{cell, room, isPresent, isSubscribed, isPending, isInFlight, size, waiting, entrySound, entriesSound, sound}
 use Rattle.meaning.proofs.Tests.{every-at, below-at}
 use Rattle.soundness.specs.Fields.{cellSound, fieldsSound, fieldsAt, tailAt, allFields, allTails, acrossSound}
-
-pub below-more : (f : ℕ → Bool) (k : ℕ) → (below k f && f k) ≡ below (k + 1) f
-unfolding below
-below-more f k = rw add-one
 
 -- where a test under n fails, one under more does
 pub below-denied : (f : ℕ → Bool) (n : ℕ) → below n f ≡ false → (k : ℕ) → below (n + k) f ≡ false

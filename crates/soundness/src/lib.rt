@@ -1,4 +1,4 @@
-// Sound memory: whether lent octets, of any length, are sound port memory.
+// Sound memory: whether lent octets, of any length, are sound port memory, in form B or in the old form. One test serves both.
 // First what the entries hold, then the octets between the values; all of them are looked at, with no early exit in a scan.
 ghost use Prim.Native.Nat.{_≤_, _<_};
 ghost use mathlib.Core.Path.{_≡_};
@@ -9,6 +9,8 @@ ghost use lib.Dec.{eqb};
 ghost use Rattle.meaning.specs.Table.{entryCount, memoryLength, rowAt, roomAt};
 ghost use Rattle.meaning.specs.Block.{permits};
 ghost use Rattle.meaning.specs.Memory.{flagLimit, cell, isPresent, size, timerSound, sound};
+ghost use Rattle.meaning.specs.FormB.{soundFormB};
+ghost use Rattle.meaning.specs.Moves.{soundOld};
 ghost use Rattle.soundness.specs.Fields.{cellSound, fieldsAt, gapAt, allFields, allTails, acrossSound};
 
 // The first octet that the flags of a cell may not be. Pending and in flight, the two highest, are for names that the port sets, and
@@ -162,8 +164,8 @@ fn across_sound(m: &[u8]) -> bool
     gate & (most & ((!runs | four) & timer_sound(m[table::TIMER_AT], m[table::EXPIRIES_AT])))
 }
 
-// Whether octets of any length are sound port memory.
-pub fn sound(m: &[u8]) -> bool
+// Whether octets of any length are sound port memory, nothing ahead of them.
+fn sound(m: &[u8]) -> bool
     ensures { λ r. ⌜ r ≡ sound (now (m .entry)) ⌝ }
 {
     if m.len() != table::MEMORY_LENGTH {
@@ -173,4 +175,27 @@ pub fn sound(m: &[u8]) -> bool
         return false;
     }
     all_tails(m) & across_sound(m)
+}
+
+// Whether they are sound in form B: the octet ahead, then sound memory (RULES 23.3).
+pub fn sound_form_b(b: &[u8]) -> bool
+    ensures { λ r. ⌜ r ≡ soundFormB (now (b .entry)) ⌝ }
+{
+    if b.len() != table::FORM_LENGTH {
+        return false;
+    }
+    if b[table::FORM_AT] != table::FORM_B {
+        return false;
+    }
+    sound(&b[table::BEHIND_AT..])
+}
+
+// Whether they are sound in the old form, which has no flag in flight (RULES 23.6).
+pub fn sound_old(m: &[u8]) -> bool
+    ensures { λ r. ⌜ r ≡ soundOld (now (m .entry)) ⌝ }
+{
+    if !sound(m) {
+        return false;
+    }
+    memory::none_in_flight(m)
 }

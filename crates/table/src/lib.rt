@@ -21,6 +21,15 @@ pub const BODIES_AT: usize = 116;
 
 pub const MEMORY_LENGTH: usize = 2100;
 
+// Form B, in which memory is kept and lent: the octet ahead, where the memory behind it starts, and the octets in all.
+pub const FORM_B: u8 = 2;
+
+pub const FORM_AT: usize = 0;
+
+pub const BEHIND_AT: usize = 1;
+
+pub const FORM_LENGTH: usize = BEHIND_AT + MEMORY_LENGTH;
+
 // Where things stand in a cell, behind its name.
 pub const FLAGS_AT: usize = 2;
 

@@ -1,12 +1,15 @@
 -- `bridge::answer_frames` meets its contract.
-use Prim.Native.Nat.{_+_, _-_, _≤_, _<_}
+use Prim.Native.Nat.{ℕ, _+_, _-_, _≤_, _<_}
 use native.Mathlib.Omega.{arith}
 use mathlib.Core.Path.{_≡_, refl, _∙_}
 use mathlib.Core.Bool.{true, false≢true}
+use mathlib.Core.List.{List}
 use lib.ListN.{length, take, drop}
 use borrow.Author.Needs.{needs}
-use Rattle.meaning.specs.Calls.{message}
-use Rattle.meaning.proofs.Refused.{message-room}
+use Rattle.meaning.specs.FormB.{message}
+use Rattle.meaning.proofs.Refused.{RoomAfter}
+use Rattle.meaning.proofs.Sendings.{takeMessage}
+use Rattle.meaning.proofs.Formed.{givesLent, roomOf, lent-room}
 use Rattle.stdio.specs.Pieces.{needed}
 use Rattle.stdio.specs.Taking.{wholeAt}
 use Rattle.stdio.proofs.Taking.{Joins, found-whole, found-more}
@@ -23,6 +26,11 @@ Inv-loop memory₀ held from room₀ out₀ next₀ at₀ memory room out next a
 
 abbrev μ-loop : tie.MeasureT-loop
 μ-loop memory₀ held from room₀ out₀ next₀ at₀ memory room out next at = length held - next
+
+-- what a message leaves of the room
+room-after : (b s room : List ℕ) → RoomAfter (message b s room) room
+unfolding givesLent roomOf
+room-after b s room = lent-room b (takeMessage s room)
 
 -- the frame that is found
 found : (c : tie.After-known-told Inv-loop μ-loop)
@@ -92,7 +100,7 @@ write-outcome-requires c κs =
     let a = c .before .before .before .before .before .before .before .before .before .before .before .before .before .before .before .before .before .before .before .before .args in
     let l = c .before .before .before .before .before .before .before .before .before .before .before .before .before .before .before .loop in
     let s = take (c .before .before .before .before .before .before .before .before .before .before .before .end .given .0 .0 - (l .next + 2)) (drop (l .next + 2) (a .held .now)) in
-    answerable (message (l .memory) s (l .room)) (l .room) (l .out) (l .at) (message-room (l .memory) s (l .room)) (c .before .before .before .before .before .before .message .ensures) (omega (arith, l .inv .1, l .inv .2, c .before .before .before .before .before .before .before .before .before .before .before .before .before .before .before .before .before .before .before .before .pre .1, c .before .before .before .before .before .before .before .before .before .before .before .before .before .before .before .before .before .before .before .before .pre .2))
+    answerable (message (l .memory) s (l .room)) (l .room) (l .out) (l .at) (room-after (l .memory) s (l .room)) (c .before .before .before .before .before .before .message .ensures) (omega (arith, l .inv .1, l .inv .2, c .before .before .before .before .before .before .before .before .before .before .before .before .before .before .before .before .before .before .before .before .pre .1, c .before .before .before .before .before .before .before .before .before .before .before .before .before .before .before .before .before .before .before .before .pre .2))
 
 loop-less : tie.Need-loop-less Inv-loop μ-loop
 loop-less c =
@@ -107,7 +115,7 @@ loop-again c =
     let m = c .before .before .before .before .before .before .before .before .before .message in
     let w = c .before .before .write-outcome in
     let s = take (c .before .before .before .before .before .before .before .before .before .before .before .before .before .before .end .given .0 .0 - (l .next + 2)) (drop (l .next + 2) (a .held .now)) in
-    let r = answered (message (l .memory) s (l .room)) (l .room) (l .out) (l .at) (message-room (l .memory) s (l .room)) (m .ensures) (w .ensures) in
+    let r = answered (message (l .memory) s (l .room)) (l .room) (l .out) (l .at) (room-after (l .memory) s (l .room)) (m .ensures) (w .ensures) in
     let h : l .at ≤ length (l .out) = omega (arith, l .inv .4, l .inv .2, c .before .before .before .before .before .before .before .before .before .before .before .before .before .before .before .before .before .before .before .before .before .before .before .pre .2) in (
       m .kept .0 ∙ l .inv .0,
       m .kept .1 .1 .0 ∙ l .inv .1,

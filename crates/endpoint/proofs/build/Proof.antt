@@ -1,128 +1,68 @@
 -- `endpoint::build` meets its contract.
-use native.Mathlib.Nat.{zero-add}
 use native.Mathlib.Omega.{arith}
 use mathlib.Core.Path.{_≡_, refl, sym, _∙_}
-use mathlib.Core.Bool.{true, false}
+use mathlib.Core.Bool.{true}
 use borrow.Author.Needs.{needs}
-use Rattle.meaning.specs.Table.{entryCount}
-use Rattle.meaning.specs.Memory.{setTimer, sound, waiting}
-use Rattle.meaning.specs.Calls.{notification, whenSent, turned}
-use Rattle.meaning.proofs.Timer.{build-does}
+use Rattle.meaning.specs.FormB.{soundFormB}
 use Rattle.meaning.proofs.Tests.{denied, affirmed}
-use Rattle.meaning.proofs.Sound.{opened}
-use Rattle.meaning.proofs.Numbers.{build-1, build-11, build-10}
-use Rattle.records.proofs.Pieces.{at-start}
-use Rattle.notification.proofs.Reported.{due-small, none-counted, some-counted}
-use Rattle.endpoint.specs.Outcomes.{numberOf, lengthOf, positionOf}
-use Rattle.endpoint.specs.declared.Outcome.the-variants.{MemoryUnsound, NotificationRoomTooSmall, AlreadyWaiting, NothingPending}
-use Rattle.endpoint.proofs.Exits.{gives-done, gives-number, build-nothing}
+use Rattle.meaning.proofs.Sendings.{buildIn, gives}
+use Rattle.meaning.proofs.Formed.{sound-form, givesLent, asksForm, roomOf}
+use Rattle.endpoint.proofs.Lent.{rest-sound, gives-formed, gives-unsound}
 use Rattle.endpoint.proofs.build.Statement.{statement}
 use Rattle.endpoint.proofs.build.Tie as tie
 
-tested : (c : tie.Else1) → sound (c .before .before .before .before .before .args .memory .now) ≡ true
-tested c = sym (c .before .sound .ensures) ∙ affirmed _ (c .if1 .left)
+tested : (c : tie.Else1) → soundFormB (c .before .before .before .before .before .args .memory .now) ≡ true
+tested c = sym (c .before .sound-form-b .ensures) ∙ affirmed _ (c .if1 .left)
 
-idle : (c : tie.Else3) → waiting (c .before .before .before .before .before .before .before .before .before .args .memory .now) ≡ false
-idle c = sym (c .before .waiting .ensures) ∙ c .if3 .left
-
-sound-requires : tie.Need-sound-requires
-sound-requires c κs = search needs
+sound-form-b-requires : tie.Need-sound-form-b-requires
+sound-form-b-requires c κs = search needs
 
 same-length : tie.Need-same-length
 same-length c = search needs
 
 returns : tie.Need-returns
-unfolding numberOf lengthOf positionOf
+unfolding givesLent asksForm roomOf
 returns c =
     let a = c .before .before .before .before .before .args in
-    gives-number (a .memory .now) (a .room .now) 1 MemoryUnsound (build-1 (a .memory .now) (a .room .now) (sym (c .before .sound .ensures) ∙ denied _ (c .if1 .taken))) refl refl refl
+    gives-unsound (a .memory .now) (buildIn (a .room .now)) refl (sym (c .before .sound-form-b .ensures) ∙ denied _ (c .if1 .taken))
+
+sub-build-due : tie.Need-sub-build-due
+sub-build-due c = omega (arith, sound-form _ (tested c) .long)
+
+part-build-due-start : tie.Need-part-build-due-start
+part-build-due-start c = omega (arith, sound-form _ (tested c) .long)
+
+part-build-due-end : tie.Need-part-build-due-end
+part-build-due-end c = search needs
+
+build-due-requires : tie.Need-build-due-requires
+build-due-requires c κs = rest-sound _ (tested (c .before .before))
 
 same-length-2 : tie.Need-same-length-2
 same-length-2 c = search needs
 
-returns-2 : tie.Need-returns-2
-unfolding numberOf lengthOf positionOf
-returns-2 c =
-    let a = c .before .before .before .before .before .before .args in
-    gives-number (a .memory .now) (a .room .now) 11 NotificationRoomTooSmall (build-11 (a .memory .now) (a .room .now) (tested (c .before)) (c .if2 .taken)) refl refl refl
-
-waiting-requires : tie.Need-waiting-requires
-waiting-requires c κs = opened _ (tested (c .before .before)) .long
-
 same-length-3 : tie.Need-same-length-3
 same-length-3 c = search needs
 
-returns-3 : tie.Need-returns-3
-unfolding numberOf lengthOf positionOf
-returns-3 c =
-    let a = c .before .before .before .before .before .before .before .before .before .args in
-    gives-number (a .memory .now) (a .room .now) 10 AlreadyWaiting (build-10 (a .memory .now) (a .room .now) (tested (c .before .before .before .before)) (c .before .before .before .if2 .left) (sym (c .before .waiting .ensures) ∙ c .if3 .taken)) refl refl refl
-
-count-requires : tie.Need-count-requires
-count-requires c κs = opened _ (tested (c .before .before .before .before .before)) .long
-
-add-if4 : tie.Need-add-if4
-add-if4 c =
-    let n = c .before .count in
-    let k = c .before .before .before in
-    let d = due-small (k .before .before .before .before .before .before .before .before .before .args .memory .now) (n .result) (n .ensures) (tested (k .before .before .before .before)) in
-    omega (arith, d .1, d .2)
-
-same-length-4 : tie.Need-same-length-4
-same-length-4 c = search needs
-
-returns-4 : tie.Need-returns-4
-unfolding numberOf lengthOf positionOf
-returns-4 c =
-    let n = c .before .before .count in
-    let k = c .before .before .before .before in
-    let a = k .before .before .before .before .before .before .before .before .before .args in
-    gives-number (a .memory .now) (a .room .now) 9 NothingPending
-    (build-nothing (a .memory .now) (a .room .now) (tested (k .before .before .before .before)) (k .before .before .before .if2 .left) (idle k) (none-counted (a .memory .now) (n .result) (n .ensures) (c .if4 .taken))) refl refl refl
-
-write-requires : tie.Need-write-requires
-write-requires c κs =
-    let k = c .before .before .before .before .before .before in
-    (tested (k .before .before .before .before), c .before .before .before .before .count .ensures, k .before .before .before .if2 .left)
-
-begin-wait-requires : tie.Need-begin-wait-requires
-begin-wait-requires c κs = opened _ (tested (c .before .before .before .before .before .before .before .before .before .before .before .before .before .before)) .long
-
-same-length-5 : tie.Need-same-length-5
-same-length-5 c = search needs
-
-same-length-6 : tie.Need-same-length-6
-same-length-6 c = search needs
-
-returns-5 : tie.Need-returns-5
-returns-5 c =
-    let n = c .before .before .before .before .before .before .before .before .before .before .before .count in
-    let k = c .before .before .before .before .before .before .before .before .before .before .before .before .before in
-    let a = k .before .before .before .before .before .before .before .before .before .args in
-    let m = a .memory .now in
-    let w = c .before .before .before .before .before .before .write .ensures in
-    gives-done (notification m) (turned whenSent entryCount (setTimer m 1 0)) (a .room .now) _
-    (build-does m (a .room .now) (tested (k .before .before .before .before)) (k .before .before .before .if2 .left) (idle k) (some-counted m (n .result) (n .ensures) (c .before .before .before .before .before .before .before .before .before .if4 .left)))
-    (w .0 ∙ zero-add _) (c .before .before .begin-wait .ensures) (w .1 ∙ at-start (a .room .now) (notification m))
+returns-2 : tie.Need-returns-2
+unfolding gives givesLent
+returns-2 c =
+    let p = c .before .before .before .before in
+    let e = p .before .before .before in
+    let a = e .before .before .before .before .before .args in
+    gives-formed (a .memory .now) (tested e) (buildIn (a .room .now)) (p .build-due .result) (p .build-due .last .0) (p .build-due .last .1 .0) (p .build-due .kept .0) (p .build-due .ensures)
 
 pub build-spec : {M : Type 1} → statement M
 build-spec =
     tie.close
     (tie.spec
-    sound-requires
+    sound-form-b-requires
     same-length
     returns
+    sub-build-due
+    part-build-due-start
+    part-build-due-end
+    build-due-requires
     same-length-2
-    returns-2
-    waiting-requires
     same-length-3
-    returns-3
-    count-requires
-    add-if4
-    same-length-4
-    returns-4
-    write-requires
-    begin-wait-requires
-    same-length-5
-    same-length-6
-    returns-5)
+    returns-2)

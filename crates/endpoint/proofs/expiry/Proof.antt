@@ -1,106 +1,63 @@
 -- `endpoint::expiry` meets its contract.
-use Prim.Native.Nat.{_+_}
 use native.Mathlib.Omega.{arith}
 use mathlib.Core.Path.{_≡_, refl, sym, _∙_}
 use mathlib.Core.Bool.{true}
 use mathlib.Core.List.{[]}
 use borrow.Author.Needs.{needs}
-use Rattle.meaning.specs.Memory.{sound, waiting, expiries, setTimer}
-use Rattle.meaning.specs.Calls.{whenGivenUp}
+use Rattle.meaning.specs.FormB.{soundFormB}
 use Rattle.meaning.proofs.Tests.{denied, affirmed}
-use Rattle.meaning.proofs.Sound.{opened}
-use Rattle.meaning.proofs.Numbers.{expiry-1, expiry-8}
-use Rattle.meaning.proofs.Kept.{idled}
-use Rattle.meaning.proofs.Timer.{expiry-again, expiry-given-up}
-use Rattle.notification.specs.Moments.{momentOf}
-use Rattle.endpoint.specs.Outcomes.{numberOf, lengthOf, positionOf}
-use Rattle.endpoint.specs.declared.Outcome.the-variants.{MemoryUnsound, Idle, SendAgain, GivenUp}
-use Rattle.endpoint.proofs.Exits.{gives-number, gives-left, counted-on}
+use Rattle.meaning.proofs.Sendings.{takeExpiry, gives}
+use Rattle.meaning.proofs.Formed.{sound-form, givesLent, asksForm, roomOf}
+use Rattle.endpoint.proofs.Lent.{rest-sound, gives-formed, gives-unsound}
 use Rattle.endpoint.proofs.expiry.Statement.{statement}
 use Rattle.endpoint.proofs.expiry.Tie as tie
 
-tested : (c : tie.Else1) → sound (c .before .before .before .before .args .memory .now) ≡ true
-tested c = sym (c .before .sound .ensures) ∙ affirmed _ (c .if1 .left)
+tested : (c : tie.Else1) → soundFormB (c .before .before .before .before .args .memory .now) ≡ true
+tested c = sym (c .before .sound-form-b .ensures) ∙ affirmed _ (c .if1 .left)
 
-waits : (c : tie.Else2) → waiting (c .before .before .before .before .before .before .before .args .memory .now) ≡ true
-waits c = sym (c .before .waiting .ensures) ∙ affirmed _ (c .if2 .left)
-
-sound-requires : tie.Need-sound-requires
-sound-requires c κs = search needs
+sound-form-b-requires : tie.Need-sound-form-b-requires
+sound-form-b-requires c κs = search needs
 
 same-length : tie.Need-same-length
 same-length c = search needs
 
 returns : tie.Need-returns
-unfolding numberOf lengthOf positionOf
+unfolding givesLent asksForm roomOf
 returns c =
-    let m = c .before .before .before .before .args .memory .now in
-    gives-number m [] 1 MemoryUnsound (expiry-1 m (sym (c .before .sound .ensures) ∙ denied _ (c .if1 .taken))) refl refl refl
+    gives-unsound (c .before .before .before .before .args .memory .now) takeExpiry refl (sym (c .before .sound-form-b .ensures) ∙ denied _ (c .if1 .taken))
 
-waiting-requires : tie.Need-waiting-requires
-waiting-requires c κs = opened _ (tested (c .before)) .long
+sub-take-expiry : tie.Need-sub-take-expiry
+sub-take-expiry c = omega (arith, sound-form _ (tested c) .long)
+
+part-take-expiry-start : tie.Need-part-take-expiry-start
+part-take-expiry-start c = omega (arith, sound-form _ (tested c) .long)
+
+part-take-expiry-end : tie.Need-part-take-expiry-end
+part-take-expiry-end c = search needs
+
+take-expiry-requires : tie.Need-take-expiry-requires
+take-expiry-requires c κs = rest-sound _ (tested (c .before))
 
 same-length-2 : tie.Need-same-length-2
 same-length-2 c = search needs
 
 returns-2 : tie.Need-returns-2
-unfolding numberOf lengthOf positionOf
+unfolding gives givesLent
 returns-2 c =
-    let m = c .before .before .before .before .before .before .before .args .memory .now in
-    gives-number m [] 8 Idle (expiry-8 m (tested (c .before .before .before)) (sym (c .before .waiting .ensures) ∙ denied _ (c .if2 .taken))) refl refl refl
-
-expiries-requires : tie.Need-expiries-requires
-expiries-requires c κs = opened _ (tested (c .before .before .before .before)) .long
-
-add-set-timer : tie.Need-add-set-timer
-add-set-timer c = search needs
-
-set-timer-requires : tie.Need-set-timer-requires
-set-timer-requires c κs = opened _ (tested (c .before .before .before .before .before .before .before)) .long
-
-same-length-3 : tie.Need-same-length-3
-same-length-3 c = search needs
-
-returns-3 : tie.Need-returns-3
-unfolding numberOf lengthOf positionOf
-returns-3 c =
-    let t = c .before .before .before .before in
-    let e = t .before .expiries .ensures in
-    let k = t .before .before .before in
-    let m = k .before .before .before .before .before .before .before .args .memory .now in
-    gives-left (setTimer m 1 (expiries m + 1)) 20 SendAgain (expiry-again m (tested (k .before .before .before)) (waits k) (omega (arith, e, t .if3 .taken))) refl refl refl
-    (counted-on m e (c .before .before .set-timer .ensures))
-
-end-wait-requires : tie.Need-end-wait-requires
-end-wait-requires c κs = opened _ (tested (c .before .before .before .before .before .before .before)) .long
-
-same-length-4 : tie.Need-same-length-4
-same-length-4 c = search needs
-
-returns-4 : tie.Need-returns-4
-unfolding numberOf lengthOf positionOf momentOf
-returns-4 c =
-    let t = c .before .before .before .before in
-    let e = t .before .expiries .ensures in
-    let k = t .before .before .before in
-    let m = k .before .before .before .before .before .before .before .args .memory .now in
-    gives-left (idled whenGivenUp m) 21 GivenUp (expiry-given-up m (tested (k .before .before .before)) (waits k) (omega (arith, e, t .if3 .left))) refl refl refl (c .before .before .end-wait .ensures)
+    let p = c .before .before in
+    let e = p .before .before in
+    gives-formed (e .before .before .before .before .args .memory .now) (tested e) takeExpiry (p .take-expiry .result) (p .take-expiry .last .0) [] (p .take-expiry .kept .0) (p .take-expiry .ensures)
 
 pub expiry-spec : {M : Type 1} → statement M
 expiry-spec =
     tie.close
     (tie.spec
-    sound-requires
+    sound-form-b-requires
     same-length
     returns
-    waiting-requires
+    sub-take-expiry
+    part-take-expiry-start
+    part-take-expiry-end
+    take-expiry-requires
     same-length-2
-    returns-2
-    expiries-requires
-    add-set-timer
-    set-timer-requires
-    same-length-3
-    returns-3
-    end-wait-requires
-    same-length-4
-    returns-4)
+    returns-2)

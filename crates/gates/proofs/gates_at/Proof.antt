@@ -6,57 +6,54 @@ use mathlib.Core.Bool.{true}
 use mathlib.Core.List.{List}
 use mir.Facts.{toZ-ofZ}
 use borrow.Author.Needs.{needs}
-use Rattle.meaning.specs.Table.{commit}
-use Rattle.meaning.specs.Memory.{present, sound}
-use Rattle.meaning.specs.Gates.{gatesOf}
+use Rattle.meaning.specs.Gates.{gates}
+use Rattle.meaning.specs.FormB.{soundFormB}
 use Rattle.meaning.proofs.Tests.{denied, affirmed}
-use Rattle.meaning.proofs.Sound.{opened}
-use Rattle.meaning.proofs.Driven.{gates-unsound, gates-idle, gates-running, running-form}
+use Rattle.meaning.proofs.Formed.{sound-form, sound-opened, gates-1, gates-sound}
+use Rattle.octets.proofs.Splices.{rest-is}
 use Rattle.gates.specs.Answers.{refusalNumber, answerOf}
 use Rattle.gates.proofs.gates_at.Statement.{statement}
 use Rattle.gates.proofs.gates_at.Tie as tie
 
-tested : (c : tie.Else1) → sound (c .before .before .before .args .memory .now) ≡ true
-tested c = sym (c .before .sound .ensures) ∙ affirmed _ (c .if1 .left)
+tested : (c : tie.Else1) → soundFormB (c .before .before .before .args .memory .now) ≡ true
+tested c = sym (c .before .sound-form-b .ensures) ∙ affirmed _ (c .if1 .left)
 
-runs : (c : tie.Else2) → present (c .before .before .before .before .before .args .memory .now) commit ≡ true
-runs c = sym (c .before .present .ensures) ∙ affirmed _ (c .if2 .left)
-
-sound-requires : tie.Need-sound-requires
-sound-requires c κs = search needs
+sound-form-b-requires : tie.Need-sound-form-b-requires
+sound-form-b-requires c κs = search needs
 
 returns : tie.Need-returns
 unfolding answerOf refusalNumber
-returns c = sym (gates-unsound _ _ (sym (c .before .sound .ensures) ∙ denied _ (c .if1 .taken)))
+returns c = sym (gates-1 _ _ (sym (c .before .sound-form-b .ensures) ∙ denied _ (c .if1 .taken)))
 
-present-requires : tie.Need-present-requires
-present-requires c κs = (opened _ (tested c) .long, omega arith)
+sub-ask-memory : tie.Need-sub-ask-memory
+sub-ask-memory c = omega (arith, sound-form _ (tested c) .long)
+
+part-ask-memory-start : tie.Need-part-ask-memory-start
+part-ask-memory-start c = omega (arith, sound-form _ (tested c) .long)
+
+part-ask-memory-end : tie.Need-part-ask-memory-end
+part-ask-memory-end c = search needs
+
+ask-memory-requires : tie.Need-ask-memory-requires
+ask-memory-requires c κs = rw (rest-is (c .before .before .before .before .args .memory .now) 1) (sound-opened _ (tested (c .before)) .1)
 
 returns-2 : tie.Need-returns-2
-unfolding answerOf refusalNumber
-returns-2 c = sym (gates-idle _ _ (tested (c .before .before)) (sym (c .before .present .ensures) ∙ denied _ (c .if2 .taken)))
-
-body-requires : tie.Need-body-requires
-body-requires c κs = (opened _ (tested (c .before .before)) .long, omega arith)
-
-ask-requires : tie.Need-ask-requires
-ask-requires c κs = rw (c .body .ensures) (running-form _ (tested (c .before .before .before)) (runs (c .before)))
-
-returns-3 : tie.Need-returns-3
-returns-3 c =
-    let s = c .before .before .before .before .before .before .before in
-    (rw (toZ-ofZ (s .fits .instant)) at (c .ask .ensures))
-    ∙ ap (λ (b : List ℕ). gatesOf b (s .args .instant)) (c .before .body .ensures)
-    ∙ sym (gates-running _ _ (tested (c .before .before .before .before)) (runs (c .before .before)))
+returns-2 c =
+    let e = c .before .before in
+    let s = e .before .before .before in
+    let b = s .args .memory .now in
+    (rw (toZ-ofZ (s .fits .instant)) at (c .ask-memory .ensures))
+    ∙ ap (λ (m : List ℕ). gates m (s .args .instant)) (rest-is b 1)
+    ∙ sym (gates-sound b (s .args .instant) (tested e))
 
 pub gates-at-spec : {M : Type 1} → statement M
 gates-at-spec =
     tie.close
     (tie.spec
-    sound-requires
+    sound-form-b-requires
     returns
-    present-requires
-    returns-2
-    body-requires
-    ask-requires
-    returns-3)
+    sub-ask-memory
+    part-ask-memory-start
+    part-ask-memory-end
+    ask-memory-requires
+    returns-2)

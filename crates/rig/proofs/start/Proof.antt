@@ -16,7 +16,7 @@ slice-relend-prefix-make-fresh c = search needs
 slice-aggregate-make-fresh : tie.Need-slice-aggregate-make-fresh
 slice-aggregate-make-fresh c =
     let s = c .before .before in
-    sym (length-take-le 2100 (s .args .memory .now) (omega (arith, s .pre)))
+    sym (length-take-le 2101 (s .args .memory .now) (omega (arith, s .pre)))
 
 make-fresh-requires : tie.Need-make-fresh-requires
 make-fresh-requires c κs = search needs
@@ -29,8 +29,8 @@ returns c =
     let m = c .before .before .make-fresh in
     let s = c .before .before .before .before .before in
     let a = s .args .memory .now in
-    let l = length-take-le 2100 a (omega (arith, s .pre)) in
-    front-back a (take 2100 a) (m .last .0) (front-kept a 2100 (omega (arith, s .pre))) (m .kept .0 ∙ l) .1 ∙ ap (splice a 0) (m .ensures .memoryIs ∙ made-fresh (take 2100 a) l)
+    let l = length-take-le 2101 a (omega (arith, s .pre)) in
+    front-back a (take 2101 a) (m .last .0) (front-kept a 2101 (omega (arith, s .pre))) (m .kept .0 ∙ l) .1 ∙ ap (splice a 0) (m .ensures .memoryIs ∙ made-fresh (take 2101 a) l)
 
 pub start-spec : {M : Type 1} → statement M
 start-spec =

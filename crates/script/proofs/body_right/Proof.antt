@@ -50,7 +50,15 @@ unfolding bodyRight
 returns-11 c = rw (c .match .keys11)
 
 returns-12 : tie.Need-returns-12
-returns-12 c = sym (other (c .before .args .code) (c .before .args .n) (c .match .rest))
+unfolding bodyRight
+returns-12 c = rw (c .match .keys12)
+
+returns-13 : tie.Need-returns-13
+unfolding bodyRight
+returns-13 c = rw (c .match .keys13)
+
+returns-14 : tie.Need-returns-14
+returns-14 c = sym (other (c .before .args .code) (c .before .args .n) (c .match .rest))
 
 pub body-right-spec : {M : Type 1} → statement M
 body-right-spec =
@@ -67,4 +75,6 @@ body-right-spec =
     returns-9
     returns-10
     returns-11
-    returns-12)
+    returns-12
+    returns-13
+    returns-14)

@@ -4,9 +4,9 @@ use mathlib.Core.Path.{_≡_}
 use lib.ListN.{drop}
 use borrow.Author.Needs.{needs}
 use Rattle.meaning.specs.Octets.{at16}
-use Rattle.meaning.specs.Calls.{makeFresh, localValue, expiry}
+use Rattle.meaning.specs.FormB.{makeFresh, localValue, expiry}
 use Rattle.script.proofs.Codes.{message-body, local-body, fresh-called, message-called, local-called, build-called, expiry-called, alone-gives}
-use Rattle.script.proofs.Lend.{rest-is}
+use Rattle.octets.proofs.Splices.{rest-is}
 use Rattle.script.proofs.call.Statement.{statement}
 use Rattle.script.proofs.call.Tie as tie
 

@@ -6,11 +6,11 @@ use lib.ListN.{take}
 use lib.Seq.{length-take-le}
 use borrow.Author.Needs.{needs}
 use Rattle.meaning.specs.Delay.{delay}
-use Rattle.meaning.specs.Gates.{gates}
+use Rattle.meaning.specs.FormB.{gates}
 use Rattle.text.specs.Lines.{octetsLine}
 use Rattle.text.proofs.Writes.{octets-short}
 use Rattle.script.specs.Instructions.{nanoseconds, instant, gatesLine, callOf}
-use Rattle.script.proofs.Codes.{known, lend-body, delay-body, gates-body, lend-row, memory-row, room-row, delay-row, gates-row, made-other}
+use Rattle.script.proofs.Codes.{lend-body, delay-body, gates-body, lend-row, memory-row, room-row, delay-row, gates-row, made-other}
 use Rattle.script.proofs.Instants.{gates-short}
 use Rattle.script.proofs.Lend.{line-left, lend-left, delay-short}
 use Rattle.script.proofs.take_other.Statement.{statement}
@@ -21,7 +21,7 @@ ten : (c : tie.At-match-rest) → c .before .before .before .before .before .arg
 ten c =
     let s = c .before .before .before .before .before in
     let o = made-other (s .args .code) {made = callOf (s .args .code)} refl (s .pre .2) in
-    at (s .args .code) (omega (arith, o .0, s .pre .2)) (known _ _ (s .pre .1)) (o .1) (c .match .rest)
+    at (s .args .code) (omega (arith, o .0, s .pre .2)) (s .pre .3) (o .1) (c .match .rest)
   where
     at : (code : ℕ) → 5 ≤ code → code < 11 → (code ≡ 9 → ⊥) → ((((Unit {0} × (code ≡ 5 → ⊥)) × (code ≡ 6 → ⊥)) × (code ≡ 7 → ⊥)) × (code ≡ 8 → ⊥)) → code ≡ 10
     at code h l n r = omega arith

@@ -6,10 +6,11 @@ use mathlib.Core.Path.{_≡_, refl, sym, ap, _∙_}
 use borrow.Author.Needs.{needs}
 use Rattle.meaning.specs.Table.{rooms, rows, roomAt}
 use Rattle.meaning.specs.Octets.{part, blank, below}
+use Rattle.meaning.proofs.Tests.{below-more}
 use Rattle.meaning.proofs.Places.{room-end, rooms-fill}
 use Rattle.soundness.specs.Fields.{tailAt, allTails}
 use Rattle.soundness.proofs.Gaps.{room-next, gap-joins}
-use Rattle.soundness.proofs.Entries.{below-more, fields-fit}
+use Rattle.soundness.proofs.Entries.{fields-fit}
 use Rattle.soundness.proofs.all_tails.Statement.{statement}
 use Rattle.soundness.proofs.all_tails.Tie as tie
 
