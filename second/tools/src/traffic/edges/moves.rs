@@ -143,7 +143,14 @@ fn refused(edges: &mut Edges, full: &[u8]) {
     }
     let mut memory = full.to_vec();
     install(&mut memory, LIST_MAX, None);
-    for octets in [&memory[..], &full[..SIZE - 1], &full[..BODIES], &[]] {
+    let longer = [full, &[0]].concat();
+    for octets in [
+        &memory[..],
+        &longer,
+        &full[..SIZE - 1],
+        &full[..BODIES],
+        &[],
+    ] {
         edges.lend_octets(octets);
         edges.forward(LENT);
         edges.forward(octets.len() + 1);
