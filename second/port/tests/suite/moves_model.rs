@@ -36,24 +36,30 @@ fn starts() -> Vec<Vec<u8>> {
     starts
 }
 
+/// One of these with up to two octets changed, in form B, in the old form or in neither.
+fn any_lent(starts: &[Vec<u8>], chance: &mut Chance) -> Vec<u8> {
+    let mut lent = starts[chance.below(starts.len())].clone();
+    for _ in 0..chance.below(3) {
+        let places = [116, 2_100][chance.below(2)];
+        let at = chance.below(places);
+        lent[at] = [chance.octet(), chance.below(16) as u8][chance.below(2)];
+    }
+    match chance.below(10) {
+        0..=3 => lent.insert(0, 2),
+        4 => lent.insert(0, chance.octet()),
+        5 => lent.resize(2_098 + chance.below(5), 0),
+        _ => {}
+    }
+    lent
+}
+
 #[test]
 fn the_numbers_of_moves_are_those_of_the_clauses() {
     let mut chance = Chance::new(29);
     let starts = starts();
     let mut seen = [[0; 18]; 2];
     for _ in 0..60_000 {
-        let mut lent = starts[chance.below(starts.len())].clone();
-        for _ in 0..chance.below(3) {
-            let places = [116, 2_100][chance.below(2)];
-            let at = chance.below(places);
-            lent[at] = [chance.octet(), chance.below(16) as u8][chance.below(2)];
-        }
-        match chance.below(10) {
-            0..=3 => lent.insert(0, 2),
-            4 => lent.insert(0, chance.octet()),
-            5 => lent.resize(2_098 + chance.below(5), 0),
-            _ => {}
-        }
+        let lent = any_lent(&starts, &mut chance);
         let room = [
             2_100,
             2_101,

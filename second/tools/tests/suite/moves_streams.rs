@@ -17,11 +17,11 @@ const BACK: u8 = 0x0C;
 #[derive(Default)]
 struct Seen {
     cases: BTreeMap<String, usize>,
-    /// What the moves since memory was last lent have written, the last one last.
+    /// The last move that was done since memory was lent, and what it wrote.
     written: Option<(u8, Vec<u8>)>,
     /// Which moves led to what is lent, if it is what they wrote.
     way: Vec<u8>,
-    /// Calls on it since it was lent.
+    /// Whether what forward wrote is lent, and waits since before it was moved.
     waits: bool,
 }
 

@@ -113,28 +113,31 @@ fn one_by_one(edges: &mut Edges) {
     }
 }
 
-/// Memory of the old form that is not sound, for each clause, with the right room and without.
-fn refused(edges: &mut Edges, full: &[u8]) {
-    let start = |place: usize| TABLE[place].start;
-    let changes: [&[(usize, u8)]; 13] = [
-        &[(0, 0x40)],
-        &[(3, 1)],
-        &[(2, PRESENT | SUBSCRIBED | 16)],
-        &[(2, PRESENT | PENDING)],
-        &[(2, PRESENT | SUBSCRIBED | IN_FLIGHT)],
-        &[(GATE_ENABLED * ENTRY + 2, PRESENT | SUBSCRIBED | PENDING)],
-        &[
+/// Changes of sound memory, each of which breaks a clause of soundness.
+fn unsound() -> [Vec<(usize, u8)>; 13] {
+    [
+        vec![(0, 0x40)],
+        vec![(3, 1)],
+        vec![(2, PRESENT | SUBSCRIBED | 16)],
+        vec![(2, PRESENT | PENDING)],
+        vec![(2, PRESENT | SUBSCRIBED | IN_FLIGHT)],
+        vec![(GATE_ENABLED * ENTRY + 2, PRESENT | SUBSCRIBED | PENDING)],
+        vec![
             (GATE_ENABLED * ENTRY + 2, PRESENT | SUBSCRIBED | IN_FLIGHT),
             (TIMER, 1),
         ],
-        &[(4, 1)],
-        &[(start(GATE_ENABLED), 2)],
-        &[(start(COMMIT) + 13, 3)],
-        &[(EXPIRIES, 1)],
-        &[(TIMER, 1), (EXPIRIES, 5)],
-        &[(SIZE - 1, 1)],
-    ];
-    for change in changes {
+        vec![(4, 1)],
+        vec![(TABLE[GATE_ENABLED].start, 2)],
+        vec![(TABLE[COMMIT].start + 13, 3)],
+        vec![(EXPIRIES, 1)],
+        vec![(TIMER, 1), (EXPIRIES, 5)],
+        vec![(SIZE - 1, 1)],
+    ]
+}
+
+/// Memory of the old form that is not sound, with the right room and without.
+fn refused(edges: &mut Edges, full: &[u8]) {
+    for change in unsound() {
         let mut memory = full.to_vec();
         change.iter().for_each(|(at, octet)| memory[*at] = *octet);
         edges.lend_octets(&memory);
