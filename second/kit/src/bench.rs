@@ -9,10 +9,15 @@ pub const FILL: u8 = 0xA5;
 /// A room that every reply fits.
 pub const AMPLE: usize = 4_096;
 
+/// The first octet of what is lent in form B (RULES 23.1).
+const FORM_B: u8 = 2;
+
 /// One port's memory, with a watch on what each call may change.
 #[derive(Clone)]
 pub struct Bench {
-    /// The lent memory.
+    /// The first octet of what is lent, if anything is.
+    pub first: Option<u8>,
+    /// The octets behind it, at the places of section 3 of the rules.
     pub memory: Vec<u8>,
 }
 
@@ -24,14 +29,29 @@ impl Bench {
         bench
     }
 
-    /// Any memory.
+    /// Any memory, in form B if it has 2,100 octets.
     pub fn of(memory: Vec<u8>) -> Bench {
-        Bench { memory }
+        let first = Some(FORM_B);
+        Bench { first, memory }
+    }
+
+    /// Any octets that are lent as memory.
+    pub fn lend(lent: &[u8]) -> Bench {
+        let first = lent.first().copied();
+        let memory = lent.get(1..).unwrap_or_default().to_vec();
+        Bench { first, memory }
+    }
+
+    /// All that is lent, the first octet and those behind it.
+    pub fn lent(&self) -> Vec<u8> {
+        self.first.into_iter().chain(self.memory.clone()).collect()
     }
 
     /// The call that makes memory fresh.
     pub fn make_fresh(&mut self) -> u8 {
-        self.watched(0, |memory, _| port::make_fresh(memory)).0
+        let number = self.watched(0, |memory, _| port::make_fresh(memory)).0;
+        assert!(number != 0 || self.first == Some(FORM_B));
+        number
     }
 
     /// A message with an ample room.
@@ -84,10 +104,11 @@ impl Bench {
     /// What is told of the gates at an instant: the number, and with it, where an entry is told, its
     /// states, its number and the nanoseconds. Asked twice, the answer is the same.
     pub fn gates(&self, instant: i64) -> (u8, Option<(u8, usize, u64)>) {
-        let before = self.memory.clone();
-        let gates = port::gates(&self.memory, instant);
-        assert_eq!(gates, port::gates(&self.memory, instant));
-        assert!(self.memory == before, "memory changed at instant {instant}");
+        let lent = self.lent();
+        let before = lent.clone();
+        let gates = port::gates(&lent, instant);
+        assert_eq!(gates, port::gates(&lent, instant));
+        assert!(lent == before, "memory changed at instant {instant}");
         let told = match gates {
             Gates::Refused(_) | Gates::NotStarted => None,
             Gates::Open {
@@ -97,6 +118,31 @@ impl Bench {
             } => Some((states, entry, nanoseconds.0)),
         };
         (gates.number() as u8, told)
+    }
+
+    /// A move forward into a room of the given length: what is lent is in the old form, all of it.
+    pub fn forward(&self, room: usize) -> (u8, Vec<u8>) {
+        self.moved(room, port::move_forward)
+    }
+
+    /// A move back into a room of the given length.
+    pub fn back(&self, room: usize) -> (u8, Vec<u8>) {
+        self.moved(room, port::move_back)
+    }
+
+    /// Makes a move twice, which changes nothing that is lent; its number and what it has written, which
+    /// fills the room if anything (RULES 23.10 and 23.11).
+    fn moved(&self, room: usize, call: fn(&[u8], &mut [u8]) -> Answer) -> (u8, Vec<u8>) {
+        let [moved, again] = [(); 2].map(|()| {
+            let mut bench = self.clone();
+            let moved = bench.watched(room, |memory, room| call(memory, room));
+            assert!(bench.lent() == self.lent(), "memory changed by a move");
+            moved
+        });
+        assert!(moved == again, "two moves that differ");
+        let (number, written) = &moved;
+        assert_eq!(written.len(), if *number == 0 { room } else { 0 });
+        moved
     }
 
     /// Whether the endpoint finds the memory sound; only number 1 tells, and it changes nothing.
@@ -121,25 +167,30 @@ impl Bench {
         call: impl FnOnce(&mut [u8], &mut [u8]) -> Answer,
     ) -> (Answer, Vec<u8>) {
         let mut room = vec![FILL; room];
-        let before = self.memory.clone();
-        let answer = call(&mut self.memory, &mut room);
+        let before = self.lent();
+        let mut lent = before.clone();
+        let answer = call(&mut lent, &mut room);
         let number = answer.number as u8;
+        *self = Bench::lend(&lent);
         assert_eq!(number == 6, answer.position != 0, "{answer:?}");
         match number {
-            0 => {}
+            // Making fresh writes the first octet, and no other call changes it (RULES 23.4).
+            0 => assert!(lent.first() == before.first() || self.first == Some(FORM_B)),
             20 | 21 => {
                 assert_eq!(answer.length, 0);
+                let (first, memory) = before.split_first().unwrap();
                 let cells = if number == 20 {
-                    before[..114].to_vec()
+                    memory[..114].to_vec()
                 } else {
-                    turned_back(&before[..114])
+                    turned_back(&memory[..114])
                 };
+                assert_eq!(self.first, Some(*first));
                 assert_eq!(self.memory[..114], cells);
-                assert_eq!(self.memory[116..], before[116..]);
+                assert_eq!(self.memory[116..], memory[116..]);
             }
             _ => {
                 assert_eq!(answer.length, 0);
-                assert!(self.memory == before, "memory changed with number {number}");
+                assert!(lent == before, "memory changed with number {number}");
             }
         }
         let (written, rest) = room.split_at(answer.length);

@@ -19,7 +19,8 @@ const LEAST_NOTIFICATION_ROOM: usize = 1_600;
 pub enum Number {
     /// Done.
     Done = 0,
-    /// Memory of a wrong length, or unsound (RULES 15.2).
+    /// What is lent as memory is not sound in form B (RULES 15.2); for a move forward, not in the old
+    /// form (RULES 23.9).
     MemoryUnsound = 1,
     /// A message of no octets (RULES 15.3).
     MessageEmpty = 2,
@@ -49,6 +50,10 @@ pub enum Number {
     CutShort = 14,
     /// No block runs whose gates could be told (RULES 22.3).
     NothingRunning = 15,
+    /// A move into a room of another length than that of what it writes (RULES 23.9).
+    RoomNotExact = 16,
+    /// A move back while a name is in flight (RULES 23.9).
+    InFlight = 17,
     /// The notification is to be sent again.
     SendAgain = 20,
     /// The notification is given up.
@@ -102,7 +107,7 @@ impl<R: Into<Answer>> From<Result<usize, R>> for Answer {
     }
 }
 
-/// Makes lent memory of 2,100 octets fresh, whatever it held.
+/// Makes lent memory of 2,101 octets fresh, in form B, whatever it held.
 pub fn make_fresh(memory: &mut [u8]) -> Answer {
     let sized = memory.len() == FRESH.len();
     if sized {

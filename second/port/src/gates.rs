@@ -4,7 +4,7 @@
 use crate::block::{cycle_nanoseconds, interval, Block, LIST_ENTRY};
 use crate::delay::Nanoseconds;
 use crate::endpoint::Number;
-use crate::memory::{sound, value_in};
+use crate::memory::{sound_in_form_b, value_in};
 use crate::table::COMMIT;
 
 /// What is answered of an instant.
@@ -37,7 +37,7 @@ impl Gates {
 
 /// Tells which gates are open at an instant, in nanoseconds since the base time. Memory is only read.
 pub fn gates(memory: &[u8], instant: i64) -> Gates {
-    let Some(octets) = sound(memory) else {
+    let Some(octets) = sound_in_form_b(memory) else {
         return Gates::Refused(Number::MemoryUnsound);
     };
     let Some(running) = value_in(octets, COMMIT) else {

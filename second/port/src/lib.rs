@@ -1,6 +1,6 @@
 //! Bightmoor's second port management endpoint: five calls over one port's lent memory, one that tells
-//! which gates are open, the delay conversion, and a reader of captured messages. It needs no operating
-//! system, no heap and no other crate.
+//! which gates are open, two that move memory between its forms, the delay conversion, and a reader of
+//! captured messages. It needs no operating system, no heap and no other crate.
 #![no_std]
 #![forbid(unsafe_code)]
 #![warn(missing_docs)]
@@ -9,8 +9,10 @@ mod block;
 mod capture;
 mod draft;
 mod endpoint;
+mod form;
 mod gates;
 mod memory;
+mod moves;
 mod octets;
 mod operation;
 mod reply;
@@ -25,6 +27,8 @@ pub use delay::{DelayUnits, Nanoseconds};
 pub use endpoint::{
     build_notification, make_fresh, take_expiry, take_local_value, take_message, Answer, Number,
 };
+pub use form::{behind_first, FORM_B, LENT};
 pub use gates::{gates, Gates};
-pub use memory::{value_in, FRESH, IN_FLIGHT, PENDING, PRESENT, SUBSCRIBED};
+pub use memory::{sound_in_form_b, value_in, FRESH, IN_FLIGHT, PENDING, PRESENT, SUBSCRIBED};
+pub use moves::{move_back, move_forward};
 pub use reply::Cause;

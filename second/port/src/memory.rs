@@ -1,5 +1,6 @@
 //! Port memory: what sound memory is, and reading and changing memory known to be sound.
 
+use crate::form::{behind_first, behind_first_mut, write_form_b, LENT};
 use crate::table::{
     Parameter, SetBy, BODIES, COMMIT, COUNT, ENTRY, EXPIRIES, GATE_ENABLED, LIST_MAX, PARTS, SIZE,
     TABLE, TIMER,
@@ -19,8 +20,8 @@ const WAITING: u8 = 1;
 /// Expiries that are answered by sending again.
 const RESENDS: u8 = 4;
 
-/// Fresh memory.
-pub static FRESH: [u8; SIZE] = {
+/// Fresh memory, in form B.
+pub static FRESH: [u8; LENT] = {
     let mut octets = [0; SIZE];
     let mut index = 0;
     while index < COUNT {
@@ -34,7 +35,9 @@ pub static FRESH: [u8; SIZE] = {
     octets[LIST_MAX * ENTRY + 2] = PRESENT;
     octets[LIST_MAX * ENTRY + 5] = 4;
     octets[TABLE[LIST_MAX].start + 3] = 64;
-    octets
+    let mut lent = [0; LENT];
+    write_form_b(&octets, &mut lent);
+    lent
 };
 
 /// What an expiry leads to.
@@ -51,9 +54,9 @@ pub struct Port<'a> {
 }
 
 impl<'a> Port<'a> {
-    /// Takes lent memory if it has 2,100 octets and is sound.
+    /// Takes lent memory if it is sound in form B.
     pub fn lend(memory: &'a mut [u8]) -> Option<Port<'a>> {
-        let octets: &mut [u8; SIZE] = memory.try_into().ok()?;
+        let octets = behind_first_mut(memory)?;
         is_sound(octets).then_some(Port { octets })
     }
 
@@ -158,10 +161,20 @@ impl<'a> Port<'a> {
     }
 }
 
-/// Lent memory that is to be read alone, if it has 2,100 octets and is sound.
-pub fn sound(memory: &[u8]) -> Option<&[u8; SIZE]> {
+/// The 2,100 octets of lent memory that is to be read alone, if it is sound in form B.
+pub fn sound_in_form_b(memory: &[u8]) -> Option<&[u8; SIZE]> {
+    behind_first(memory).filter(|octets| is_sound(octets))
+}
+
+/// Memory of the old form, if it is sound there: nothing is in flight (RULES 23.6).
+pub fn sound_in_old_form(memory: &[u8]) -> Option<&[u8; SIZE]> {
     let octets = memory.try_into().ok()?;
-    is_sound(octets).then_some(octets)
+    (is_sound(octets) && !is_in_flight(octets)).then_some(octets)
+}
+
+/// Whether an entry is in flight.
+pub fn is_in_flight(octets: &[u8; SIZE]) -> bool {
+    (0..COUNT).any(|index| Entry::of(octets, index).flags & IN_FLIGHT != 0)
 }
 
 /// The value of an entry of sound memory, of which the last rooms may be missing.

@@ -3,8 +3,8 @@
 use std::io::{self, Read, Write};
 
 use port::{
-    build_notification, gates, make_fresh, take_expiry, take_local_value, take_message, Answer,
-    DelayUnits, Gates, Nanoseconds, FRESH,
+    build_notification, gates, make_fresh, move_back, move_forward, take_expiry, take_local_value,
+    take_message, Answer, DelayUnits, Gates, Nanoseconds, FRESH,
 };
 
 use crate::stream::{Lines, Piece, Pieces};
@@ -33,6 +33,10 @@ pub mod code {
     pub const MESSAGE_IN_FULL: u8 = 0x09;
     /// Which gates are open: instant (8), in two's complement (RULES 17.19 and 17.20).
     pub const GATES: u8 = 0x0A;
+    /// Move the lent memory forward, into the room: room length (2) (RULES 17.22).
+    pub const FORWARD: u8 = 0x0B;
+    /// Move the lent memory back, into the room: room length (2) (RULES 17.23).
+    pub const BACK: u8 = 0x0C;
 }
 
 /// An instruction's head: code, length (2).
@@ -98,6 +102,14 @@ impl<W: Write> Rig<W> {
                 build_notification(&mut self.memory, &mut self.room)
             }
             (code::EXPIRY, []) => take_expiry(&mut self.memory),
+            (code::FORWARD, [high, low]) => {
+                self.make_room([*high, *low]);
+                move_forward(&self.memory, &mut self.room)
+            }
+            (code::BACK, [high, low]) => {
+                self.make_room([*high, *low]);
+                move_back(&self.memory, &mut self.room)
+            }
             _ => return self.other(code, body),
         };
         self.answered(answer, code == code::MESSAGE_IN_FULL)?;

@@ -33,6 +33,9 @@ fn call_all(bench: &mut Bench, chance: &mut Chance, message: &[u8]) {
     bench.expire();
     let instant = i64::from_be_bytes(chance.octets(8).try_into().unwrap());
     assert_eq!(bench.gates(instant).0 != 1, sound);
+    let room = [2_100, 2_101, 2_101, chance.below(2_300)][chance.below(4)];
+    let moves = [bench.forward(room).0, bench.back(room).0];
+    assert!(moves[usize::from(!sound)] == 1, "{moves:?}, {sound}");
     assert_eq!(bench.is_sound(), sound);
 }
 
@@ -79,7 +82,8 @@ fn damaged_commands_on_damaged_memory() {
 fn random_memories_of_any_length() {
     let mut chance = Chance::new(13);
     for _ in 0..ROUNDS {
-        let length = [2_100, chance.below(2_300), chance.below(130)][chance.below(3)];
+        let lengths = [2_100, 2_101, chance.below(2_300), chance.below(130)];
+        let length = lengths[chance.below(4)];
         let octets = chance.octets(64);
         let mut memory: Vec<u8> = octets.iter().copied().cycle().take(length).collect();
         if chance.below(2) == 0 {
@@ -87,8 +91,9 @@ fn random_memories_of_any_length() {
             memory[..names.len()].copy_from_slice(names);
         }
         let message = random_message(&mut chance);
-        let mut bench = Bench::of(memory);
+        let mut bench = [Bench::of(memory.clone()), Bench::lend(&memory)][chance.below(2)].clone();
         call_all(&mut bench, &mut chance, &message);
-        assert_eq!(bench.make_fresh(), u8::from(length != 2_100));
+        let refused = bench.lent().len() != 2_101;
+        assert_eq!(bench.make_fresh(), u8::from(refused));
     }
 }

@@ -30,10 +30,10 @@ fn number_0_done() {
 
 #[test]
 fn number_1_memory_of_wrong_length() {
-    for length in [0, 1, 2_099, 2_101, 2_200] {
-        let mut memory = Bench::fresh().memory;
-        memory.resize(length, 0);
-        let mut bench = Bench::of(memory);
+    for length in [0, 1, 2, 2_099, 2_100, 2_102, 2_200] {
+        let mut lent = Bench::fresh().lent();
+        lent.resize(length, 0);
+        let mut bench = Bench::lend(&lent);
         assert_eq!(bench.make_fresh(), 1);
         assert_eq!(bench.send(&command(&read(0x0003))).0, 1);
         assert_eq!(bench.local(0x00A4, &[0, 1]), 1);

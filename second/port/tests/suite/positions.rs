@@ -216,10 +216,10 @@ fn every_other_call_has_position_0() {
         |memory, _| port::take_expiry(memory),
     ];
     let mut room = [0; 4_096];
-    for length in [2_100, 2_099] {
+    for length in [2_101, 2_100] {
         for call in calls {
             // Right before it a command breaks, or would on sound memory.
-            let mut memory = Bench::fresh().memory;
+            let mut memory = Bench::fresh().lent();
             memory.truncate(length);
             port::take_message(&mut memory, &command(&[10]), &mut room);
             assert_eq!(call(&mut memory, &mut room).position, 0);

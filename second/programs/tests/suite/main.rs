@@ -9,6 +9,7 @@ mod files;
 mod process;
 mod rig;
 mod rig_gates;
+mod rig_moves;
 mod samples;
 mod starters;
 mod told;

@@ -25,7 +25,7 @@ pub fn build(room: u16) -> Vec<u8> {
     instruction(3, &room.to_be_bytes())
 }
 
-fn digits(octets: &[u8]) -> String {
+pub fn digits(octets: &[u8]) -> String {
     octets.iter().map(|octet| format!("{octet:02x}")).collect()
 }
 
@@ -34,7 +34,7 @@ fn it_starts_with_fresh_memory_and_an_empty_room() {
     let script = [instruction(6, &[]), instruction(7, &[])].concat();
     assert_eq!(
         lines(RIG, &script),
-        [digits(&Bench::fresh().memory), "-".into()]
+        [digits(&Bench::fresh().lent()), "-".into()]
     );
     assert!(lines(RIG, &[]).is_empty());
 }
@@ -87,7 +87,7 @@ fn a_message_in_full_prints_its_position() {
         in_full(64, &long),
         // In short it is the same call.
         message(64, &long),
-        instruction(5, &[0; 2_100]),
+        instruction(5, &[0; 2_101]),
         in_full(64, &long),
     ];
     let expected = [
@@ -104,7 +104,7 @@ fn a_message_in_full_prints_its_position() {
         "6 7 -",
         "6 456 -",
         "6 -",
-        "lent 2100",
+        "lent 2101",
         "1 0 -",
     ];
     assert_eq!(lines(RIG, &script.concat()), expected);
@@ -187,7 +187,7 @@ fn rooms_are_made_anew() {
 fn memory_can_be_lent() {
     let mut bench = Bench::fresh();
     bench.done(&set(0x0003, &[1]));
-    let mut script = instruction(5, &bench.memory);
+    let mut script = instruction(5, &bench.lent());
     script.extend(message(4_096, &command(&read(0x0003))));
     script.extend(
         [
@@ -207,16 +207,16 @@ fn memory_can_be_lent() {
     );
     script.extend(
         [
-            instruction(5, &[1; 2_100]),
+            instruction(5, &[1; 2_101]),
             instruction(4, &[]),
             instruction(0, &[]),
         ]
         .concat(),
     );
     script.extend(instruction(6, &[]));
-    let fresh = digits(&Bench::fresh().memory);
+    let fresh = digits(&Bench::fresh().lent());
     let expected = [
-        "lent 2100",
+        "lent 2101",
         "0 0271000701000300010100",
         "lent 0",
         "-",
@@ -224,7 +224,7 @@ fn memory_can_be_lent() {
         "lent 2200",
         "1 -",
         "1 -",
-        "lent 2100",
+        "lent 2101",
         "1 -",
         "0 -",
         &fresh,
@@ -270,14 +270,26 @@ fn faulty_instructions_end_the_run() {
         (8, 9),
         (9, 0),
         (9, 1),
+        (0x0B, 0),
+        (0x0B, 1),
+        (0x0B, 3),
+        (0x0C, 0),
+        (0x0C, 1),
+        (0x0C, 3),
     ];
     let mut faulty: Vec<Vec<u8>> = wrong_lengths
         .iter()
         .map(|(code, length)| instruction(*code, &vec![0; *length]))
         .collect();
-    faulty.extend([0x0E, 0x10, 0x81, 0xFF].map(|code| instruction(code, &[])));
+    faulty.extend([0x0D, 0x0E, 0x10, 0x81, 0xFF].map(|code| instruction(code, &[])));
     faulty.push(instruction(0xFF, &[1, 2]));
-    for whole in [message, in_full].map(|send| send(64, &command(&read(0x0003)))) {
+    let [sent, told] = [message, in_full].map(|send| send(64, &command(&read(0x0003))));
+    for whole in [
+        sent,
+        told,
+        instruction(0x0B, &[8, 53]),
+        instruction(0x0C, &[8, 52]),
+    ] {
         faulty.extend((1..whole.len()).map(|kept| whole[..kept].to_vec()));
     }
     for at_fault in faulty {

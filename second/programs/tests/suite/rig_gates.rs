@@ -34,7 +34,7 @@ fn gates_print_each_kind_of_line() {
         asked.clone(),
         message(4_096, &example()),
         asked.clone(),
-        instruction(5, &[0; 2_100]),
+        instruction(5, &[0; 2_101]),
         asked.clone(),
         instruction(0, &[]),
         asked,
@@ -44,7 +44,7 @@ fn gates_print_each_kind_of_line() {
     assert!(printed.remove(4).starts_with("0 02"));
     let expected = [
         ["15 -"; 4].to_vec(),
-        vec!["0 -", "0 -", "0 ff 0 4", "0 01 1 3", "lent 2100"],
+        vec!["0 -", "0 -", "0 ff 0 4", "0 01 1 3", "lent 2101"],
         ["1 -"; 4].to_vec(),
         vec!["0 -"],
         ["15 -"; 4].to_vec(),
@@ -147,7 +147,7 @@ fn the_running_block_alone_is_told() {
         .concat(),
     );
     let asked: Vec<u8> = [3, 4, 19, 20].into_iter().flat_map(gates).collect();
-    let printed = lines(RIG, &[instruction(5, &bench.memory), asked].concat());
-    let expected = ["lent 2100", "0 ff 0 1", "0 01 1 6", "0 01 1 1", "0 ff 0 4"];
+    let printed = lines(RIG, &[instruction(5, &bench.lent()), asked].concat());
+    let expected = ["lent 2101", "0 ff 0 1", "0 01 1 6", "0 01 1 1", "0 ff 0 4"];
     assert_eq!(printed, expected);
 }

@@ -1,7 +1,7 @@
 //! Schedules to be asked which gates are open, and the instants to ask about.
 
 use port::table::{COMMIT, PARTS, TABLE};
-use port::{gates, value_in, Block, Gates};
+use port::{sound_in_form_b, value_in, Block};
 
 use super::dice::Dice;
 use super::schedules::{cycle_nanoseconds, intervals, Values, BILLION};
@@ -83,10 +83,8 @@ pub struct Running {
 
 impl Running {
     /// Those of the block in lent memory; none where nothing runs or memory is not sound.
-    pub fn of(memory: &[u8]) -> Option<Running> {
-        if gates(memory, -1) != Gates::NotStarted {
-            return None;
-        }
+    pub fn of(lent: &[u8]) -> Option<Running> {
+        let memory = sound_in_form_b(lent)?;
         let Block([_, _, list, cycle_time]) = Block::split(value_in(memory, COMMIT)?)?;
         let mut edges = vec![0];
         for interval in intervals(list) {

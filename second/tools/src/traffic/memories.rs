@@ -1,53 +1,76 @@
-//! Memory for traffic to lend: damaged in every clause of soundness, or sound but unusual.
+//! Memory for traffic to lend: damaged in every clause of soundness, sound but unusual, or in no form.
+//! What is given and what is lent is in form B, unless something else is said.
 
 use port::table::{
     SetBy, BODIES, COMMIT, COUNT, ENTRY, EXPIRIES, GATE_ENABLED, LIST_MAX, PARTS, SIZE, TABLE,
     TIMER,
 };
-use port::{value_in, IN_FLIGHT, PENDING, PRESENT, SUBSCRIBED};
+use port::{IN_FLIGHT, LENT, PENDING, PRESENT, SUBSCRIBED};
 use programs::rig::MOST_LENT;
 
 use super::dice::Dice;
+use super::forms::{behind, form_b, held};
 use super::{gated, schedules, values};
 
 /// Sound memory with some change, after which it mostly is not sound.
 pub fn changed(dice: &mut Dice, sound: &[u8]) -> Vec<u8> {
-    let mut memory = sound.to_vec();
-    match dice.below(18) {
+    let mut memory = behind(sound).to_vec();
+    match dice.below(20) {
         0..=4 => change_octets(dice, sound, &mut memory),
-        5 => change_length(dice, &mut memory),
-        6..=8 => change_value(dice, &mut memory),
-        9 => remove_value(dice, &mut memory),
-        10..=12 => change_flags(dice, &mut memory),
-        13..=14 => change_block(dice, &mut memory),
+        5..=6 => return in_no_form(dice, sound),
+        7..=9 => change_value(dice, &mut memory),
+        10 => remove_value(dice, &mut memory),
+        11..=13 => change_flags(dice, &mut memory),
+        14..=15 => change_block(dice, &mut memory),
         _ => change_marks(dice, &mut memory),
     }
-    memory
+    form_b(&memory)
+}
+
+/// Sound memory with other marks and another timer, which mostly may stand.
+pub fn marked(dice: &mut Dice, sound: &[u8]) -> Vec<u8> {
+    let mut memory = behind(sound).to_vec();
+    change_marks(dice, &mut memory);
+    form_b(&memory)
+}
+
+/// Sound memory that is not in form B: with another first octet, without it, or of another length.
+pub fn in_no_form(dice: &mut Dice, sound: &[u8]) -> Vec<u8> {
+    let mut lent = sound.to_vec();
+    match dice.below(5) {
+        0..=1 => {
+            let any = dice.octet();
+            lent[0] = dice.pick(&[0x00, 0x01, 0x03, 0xFF, any]);
+        }
+        2 => drop(lent.remove(0)),
+        _ => change_length(dice, &mut lent),
+    }
+    lent
 }
 
 /// Sound memory in which a block runs that is not made of the values beside it.
 pub fn running(dice: &mut Dice, sound: &[u8]) -> Vec<u8> {
-    let mut memory = sound.to_vec();
+    let mut memory = behind(sound).to_vec();
     for part in PARTS {
-        if value_in(sound, part).is_none() || dice.one_in(2) {
+        if held(sound, part).is_none() || dice.one_in(2) {
             let value = values::permitted(dice, &TABLE[part]);
             install(&mut memory, part, Some(&value));
         }
     }
     let block = gated::schedule(dice).concat();
     install(&mut memory, COMMIT, Some(&block));
-    memory
+    form_b(&memory)
 }
 
 /// Sound memory with one octet changed, often one of the running block.
 pub fn damaged(dice: &mut Dice, sound: &[u8]) -> Vec<u8> {
-    let mut memory = sound.to_vec();
-    let at = match value_in(sound, COMMIT) {
+    let mut memory = behind(sound).to_vec();
+    let at = match held(sound, COMMIT) {
         Some(block) if dice.one_in(2) => TABLE[COMMIT].start + dice.below(block.len()),
         _ => place(dice, sound),
     };
     change_octet(dice, &mut memory[at]);
-    memory
+    form_b(&memory)
 }
 
 /// Changes one to three octets.
@@ -79,15 +102,18 @@ fn change_octet(dice: &mut Dice, octet: &mut u8) {
 fn near_an_end(dice: &mut Dice, sound: &[u8]) -> usize {
     let index = dice.below(COUNT);
     let parameter = &TABLE[index];
-    let length = value_in(sound, index).map_or(0, <[u8]>::len);
+    let length = held(sound, index).map_or(0, <[u8]>::len);
     let end = parameter.start + dice.pick(&[length, length, parameter.most]);
     (end - dice.below(2)).min(SIZE - 1)
 }
 
-fn change_length(dice: &mut Dice, memory: &mut Vec<u8>) {
+fn change_length(dice: &mut Dice, lent: &mut Vec<u8>) {
     let any = dice.below(MOST_LENT + 1);
-    let length = dice.pick(&[0, 1, BODIES, SIZE - 1, SIZE + 1, MOST_LENT, any]);
-    memory.resize(length, 0);
+    let near = dice.pick(&[SIZE - 1, SIZE, LENT + 1]);
+    lent.resize(
+        dice.pick(&[0, 1, BODIES, near, near, near, MOST_LENT, any]),
+        0,
+    );
 }
 
 /// Installs a value that is permitted or, more often, one that its room can hold but its rule

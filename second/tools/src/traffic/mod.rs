@@ -8,13 +8,17 @@ mod captures;
 mod commands;
 pub mod dice;
 mod edges;
+mod faulty;
+mod forms;
 mod frames;
 mod gated;
 mod in_flight;
 pub mod measured;
 mod memories;
+mod moves;
 pub mod not_served;
 mod operations;
+mod pace;
 mod pieces;
 mod schedules;
 mod script;
@@ -89,8 +93,8 @@ pub fn write<W: Write>(kind: Kind, seed: u64, count: u64, sink: &mut W) -> io::R
         Kind::Frames => frames::write(&mut dice, count, sink),
         Kind::Measured(stream) => stream.write(seed, count, sink),
         Kind::Asked(stream) => stream.write(seed, count, sink),
-        Kind::Script => script::write(&mut dice, script::OFTEN, count, sink),
-        Kind::Calls => script::write(&mut dice, script::SELDOM, count, sink),
+        Kind::Script => script::write(&mut dice, pace::OFTEN, count, sink),
+        Kind::Calls => script::write(&mut dice, pace::SELDOM, count, sink),
         Kind::Edges => edges::write(count, sink),
         Kind::Captures => captures::write(&mut dice, count, sink),
         Kind::CaptureEdges => captures::edges::write(count, sink),

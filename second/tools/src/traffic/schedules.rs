@@ -1,9 +1,10 @@
 //! Whole schedules for traffic: cycles that fit or just do not, right and wrong sums.
 
 use port::table::{COMMIT, PARTS, TABLE};
-use port::{last_four, value_in, Block, LIST_ENTRY};
+use port::{last_four, Block, LIST_ENTRY};
 
 use super::dice::Dice;
+use super::forms::held;
 use super::operations::Operations;
 use super::values::{self, list};
 
@@ -62,22 +63,22 @@ pub fn cycle_nanoseconds(cycle_time: &[u8]) -> Option<u128> {
 }
 
 /// Operations that set a whole schedule, or part of it, and commit it.
-pub fn operations(dice: &mut Dice, memory: &[u8]) -> Operations {
+pub fn operations(dice: &mut Dice, lent: &[u8]) -> Operations {
     let mut parts = parts(dice);
     let mut order = PARTS;
     order.swap(dice.below(4), dice.below(4));
     let mut operations = Operations::default();
     for part in order {
         let value = &mut parts[part - PARTS[0]];
-        match value_in(memory, part) {
+        match held(lent, part) {
             // Leaving one out keeps the value that memory has; then the commit is over that.
-            Some(held) if dice.one_in(8) => *value = held.to_vec(),
+            Some(old) if dice.one_in(8) => *value = old.to_vec(),
             _ => operations.set(TABLE[part].name, value),
         }
     }
     let right = sums(&parts);
     let told = if dice.one_in(4) {
-        wrong_sums(dice, right, &parts, memory)
+        wrong_sums(dice, right, &parts, lent)
     } else {
         right.to_vec()
     };
@@ -113,10 +114,10 @@ pub fn commit_all(values: &Values, operations: &mut Operations) {
 }
 
 /// Operations that commit what memory holds.
-pub fn recommit(memory: &[u8]) -> Operations {
-    let held = PARTS.map(|part| value_in(memory, part).unwrap_or_default().to_vec());
+pub fn recommit(lent: &[u8]) -> Operations {
+    let values = PARTS.map(|part| held(lent, part).unwrap_or_default().to_vec());
     let mut operations = Operations::default();
-    operations.set(TABLE[COMMIT].name, &sums(&held));
+    operations.set(TABLE[COMMIT].name, &sums(&values));
     operations
 }
 
@@ -126,7 +127,7 @@ pub fn sums(values: &Values) -> [u8; 4] {
 }
 
 /// Sums that come of one plain error.
-fn wrong_sums(dice: &mut Dice, right: [u8; 4], values: &Values, memory: &[u8]) -> Vec<u8> {
+fn wrong_sums(dice: &mut Dice, right: [u8; 4], values: &Values, lent: &[u8]) -> Vec<u8> {
     let [a, b, c, d] = right;
     match dice.below(7) {
         0 => vec![a, b.wrapping_add(1), c, d],
@@ -135,7 +136,7 @@ fn wrong_sums(dice: &mut Dice, right: [u8; 4], values: &Values, memory: &[u8]) -
         3 => vec![b, a, d, c],
         4 => vec![a, b, c],
         5 => {
-            let running = value_in(memory, COMMIT).unwrap_or_default();
+            let running = held(lent, COMMIT).unwrap_or_default();
             Block([running, &[], &[], &[]]).sums().to_vec()
         }
         _ => sums(&in_rooms(values)).to_vec(),

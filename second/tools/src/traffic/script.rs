@@ -2,16 +2,18 @@
 
 use std::io::{self, Sink, Write};
 
-use port::table::{SetBy, SIZE, TABLE, TIMER};
-use port::{take_message, FRESH};
-use programs::rig::{code, Rig, HEAD, MOST_LENT, MOST_ROOM};
+use port::table::{SetBy, TABLE, TIMER};
+use port::{sound_in_form_b, take_message, FRESH, LENT};
+use programs::rig::{code, Rig, MOST_ROOM};
 use programs::stream::Lines;
 
 use super::dice::Dice;
+use super::forms::behind;
 use super::gated::{self, Running};
 use super::operations::Operations;
-use super::pieces::{self, is_cut, shorten};
-use super::{breaks, commands, in_flight, memories, schedules, values};
+use super::pace::Pace;
+use super::pieces::{self, is_cut};
+use super::{breaks, commands, faulty, in_flight, memories, moves, schedules, values};
 
 /// A room that is large enough for every reply.
 const AMPLE: usize = 4_096;
@@ -23,6 +25,8 @@ const LEAST_NOTIFICATION_ROOM: usize = 1_600;
 const BREAKS: usize = 9;
 /// One scene in so many asks which gates are open, beside what is asked in all others.
 const GATES: usize = 10;
+/// One scene in so many of those that lend memory moves it between its forms.
+const MOVES: usize = 3;
 /// Nanoseconds around the edges of the delay conversion.
 const DELAYS: [u64; 8] = [
     0,
@@ -34,36 +38,6 @@ const DELAYS: [u64; 8] = [
     i64::MAX as u64,
     u64::MAX,
 ];
-
-/// How often a script does what makes it long.
-#[derive(Clone, Copy)]
-pub struct Pace {
-    /// Kinds of scenes to choose from. Those from 21 on lend memory or make it fresh.
-    scenes: usize,
-    /// Memory is shown after one call in so many.
-    memory: usize,
-    /// The room is shown after one call in so many.
-    room: usize,
-    /// A message has an ample room once in so many times, else mostly one about as long as its
-    /// reply.
-    ample: usize,
-}
-
-/// Lends and shows as often as calls are made.
-pub const OFTEN: Pace = Pace {
-    scenes: 25,
-    memory: 3,
-    room: 3,
-    ample: 2,
-};
-
-/// Makes more calls than it lends and shows, and shows memory more often than rooms.
-pub const SELDOM: Pace = Pace {
-    scenes: 22,
-    memory: 5,
-    room: 36,
-    ample: 3,
-};
 
 /// Writes a script of `count` instructions.
 pub fn write<W: Write>(dice: &mut Dice, pace: Pace, count: u64, sink: &mut W) -> io::Result<()> {
@@ -113,6 +87,7 @@ impl<W: Write> Script<'_, W> {
             18 => self.build(),
             19 => self.expiry(),
             20 => self.delay(),
+            21..=23 if self.dice.one_in(MOVES) => self.moves(),
             21..=23 => self.change_memory(),
             _ if self.dice.one_in(4) => self.instruction(code::MAKE_FRESH, &[]),
             _ => self.change_memory(),
@@ -133,7 +108,8 @@ impl<W: Write> Script<'_, W> {
             3..=4 => self.local_value(),
             5..=6 => self.build(),
             7 => self.acknowledge(),
-            8..=9 => self.meanwhile(),
+            8 => self.meanwhile(),
+            9 => self.make_move().map(drop),
             _ => self.expiry(),
         }
     }
@@ -247,7 +223,7 @@ impl<W: Write> Script<'_, W> {
     }
 
     fn is_waiting(&self) -> bool {
-        self.rig.memory.get(TIMER) == Some(&1)
+        behind(&self.rig.memory).get(TIMER) == Some(&1)
     }
 
     fn build(&mut self) -> io::Result<()> {
@@ -321,7 +297,7 @@ impl<W: Write> Script<'_, W> {
         for _ in 0..self.dice.between(1, 3) {
             self.call(before.as_ref())?;
         }
-        if self.rig.memory.len() == SIZE && self.dice.one_in(4) {
+        if self.rig.memory.len() == LENT && self.dice.one_in(4) {
             self.instruction(code::MAKE_FRESH, &[])
         } else {
             if self.dice.one_in(4) {
@@ -330,6 +306,44 @@ impl<W: Write> Script<'_, W> {
             }
             self.instruction(code::LEND, &sound)
         }
+    }
+
+    /// Memory moved between its forms, often there and back, with calls on what a move wrote.
+    fn moves(&mut self) -> io::Result<()> {
+        let sound = self.rig.memory.clone();
+        let before = Running::of(&sound);
+        if !self.dice.one_in(4) {
+            let lent = moves::lent(self.dice, &sound);
+            self.instruction(code::LEND, &lent)?;
+        }
+        for _ in 0..self.dice.between(1, 3) {
+            if self.dice.one_in(3) {
+                self.call(before.as_ref())?;
+            }
+            let Some(written) = self.make_move()? else {
+                continue;
+            };
+            if !self.dice.one_in(3) {
+                self.instruction(code::LEND, &written)?;
+                self.call(before.as_ref())?;
+            }
+        }
+        if self.rig.memory.len() == LENT && self.dice.one_in(3) {
+            return self.instruction(code::MAKE_FRESH, &[]);
+        }
+        match sound_in_form_b(&self.rig.memory) {
+            Some(_) => Ok(()),
+            None => self.instruction(code::LEND, &sound),
+        }
+    }
+
+    /// A move of what is lent, and what it wrote.
+    fn make_move(&mut self) -> io::Result<Option<Vec<u8>>> {
+        let code = moves::code(self.dice, &self.rig.memory);
+        let room = moves::room(self.dice, code);
+        self.instruction(code, &(room as u16).to_be_bytes())?;
+        self.show()?;
+        Ok(moves::written(code, &self.rig.memory, room))
     }
 
     /// Shows memory and room, as often as the pace has it.
@@ -355,39 +369,8 @@ impl<W: Write> Script<'_, W> {
         self.rig.instruction(code, body)?;
         let mut instruction = pieces::instruction(code, body);
         if self.cut && self.left == 0 {
-            instruction = self.faulty(instruction);
+            instruction = faulty::instruction(self.dice, instruction);
         }
         self.sink.write_all(&instruction)
-    }
-
-    /// An instruction cut short, with an unknown code, or with a body of the wrong length.
-    fn faulty(&mut self, mut instruction: Vec<u8>) -> Vec<u8> {
-        match self.dice.below(3) {
-            0 => shorten(self.dice, &mut instruction, HEAD),
-            1 => instruction[0] = self.dice.pick(&[0x0E, 0x10, 0xFF]),
-            _ => {
-                let wrong = [
-                    (code::MAKE_FRESH, 1),
-                    (code::MESSAGE, 1),
-                    (code::LOCAL_VALUE, 1),
-                    (code::BUILD, 1),
-                    (code::BUILD, 3),
-                    (code::EXPIRY, 1),
-                    (code::LEND, MOST_LENT + 1),
-                    (code::SHOW_MEMORY, 1),
-                    (code::SHOW_ROOM, 1),
-                    (code::DELAY, 7),
-                    (code::DELAY, 9),
-                    (code::MESSAGE_IN_FULL, 0),
-                    (code::MESSAGE_IN_FULL, 1),
-                    (code::GATES, 0),
-                    (code::GATES, 7),
-                    (code::GATES, 9),
-                ];
-                let (code, length) = self.dice.pick(&wrong);
-                instruction = pieces::instruction(code, &vec![0; length]);
-            }
-        }
-        instruction
     }
 }

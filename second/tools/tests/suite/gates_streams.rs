@@ -142,17 +142,16 @@ impl Seen {
             self.count(format!("{end}, number {number}"));
         }
         match number {
-            1 if bench.memory.len() == 2_100 => self.count("unsound"),
-            1 => self.count("wrong length"),
+            1 if bench.memory.len() != 2_100 => self.count("wrong length"),
+            1 if bench.first != Some(2) => self.count("another first octet"),
+            1 => self.count("unsound"),
             15 if bench.memory == Bench::fresh().memory => self.count("fresh memory"),
             15 if blocks(&bench.memory)[1].len() > 22 => self.count("not committed"),
             _ => {}
         }
-        let lent = self
-            .lent
-            .take()
-            .filter(|lent| lent.len() == bench.memory.len());
-        let pairs = lent.iter().flatten().zip(&bench.memory);
+        let asked = bench.lent();
+        let lent = self.lent.take().filter(|lent| lent.len() == asked.len());
+        let pairs = lent.iter().flatten().zip(&asked);
         if pairs.filter(|(a, b)| a != b).count() == 1 {
             self.count(format!("one octet changed, number {number}"));
         }
@@ -178,7 +177,7 @@ impl Seen {
         play_all(script, |bench, code, body| {
             match (code, <[u8; 8]>::try_from(body)) {
                 (GATES, Ok(octets)) => self.ask(bench, i64::from_be_bytes(octets)),
-                (5, _) => self.lent = Some(bench.memory.clone()),
+                (5, _) => self.lent = Some(bench.lent()),
                 (1 | 9, _) if bench.is_sound() => self.ran = Some(blocks(&bench.memory)[0].clone()),
                 _ => {}
             }
@@ -196,6 +195,7 @@ pub const CASES: &[&str] = &[
     "number 15, below 0",
     "unsound",
     "wrong length",
+    "another first octet",
     "fresh memory",
     "not committed",
     "one octet changed, number 0",

@@ -196,12 +196,12 @@ impl Seen {
     }
 
     /// Memory that is lent. What is wrong with it is found by setting that one thing right.
-    fn lent(&mut self, memory: &[u8]) {
+    fn lent(&mut self, lent: &[u8]) {
         (self.turned_back, self.kept) = Default::default();
         self.last = None;
-        if memory.len() != 2_100 {
+        let Some((2, memory)) = lent.split_first().filter(|_| lent.len() == 2_101) else {
             return;
-        }
+        };
         let mut cells = memory[..114].iter().skip(2).step_by(6);
         let out = cells.any(|flags| flags & IN_FLIGHT != 0);
         let sound = Bench::of(memory.to_vec()).is_sound();

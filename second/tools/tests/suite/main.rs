@@ -9,6 +9,7 @@ mod in_flight_streams;
 mod limits;
 mod measure;
 mod measured_rigs;
+mod moves_streams;
 mod not_served_streams;
 mod other_calls;
 mod process;

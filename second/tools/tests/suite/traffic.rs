@@ -6,7 +6,7 @@ use kit::{Bench, Reply};
 use tools::traffic::measured::{Stream, STREAMS};
 use tools::traffic::{self, stream, Kind};
 
-const SCRIPTS: u64 = 200;
+const SCRIPTS: u64 = 250;
 const RECORDS: u64 = 200;
 
 /// The kind of a stream for measuring.
@@ -54,7 +54,7 @@ fn the_edges_are_whole_and_the_same_for_each_seed() {
     for line in &lines {
         *numbers.entry(line.split(' ').next().unwrap()).or_default() += 1;
     }
-    for number in (0..=12).chain([15, 20, 21]) {
+    for number in (0..=12).chain([15, 16, 17, 20, 21]) {
         let seen = numbers.get(&*number.to_string()).copied();
         assert!(seen.is_some(), "number {number}");
     }
@@ -76,10 +76,10 @@ fn scripts_reach_every_number() {
         }
     }
     let numbers: Vec<u8> = reached.keys().copied().collect();
-    let wanted: Vec<u8> = (0..=12).chain([15, 20, 21]).collect();
+    let wanted: Vec<u8> = (0..=12).chain([15, 16, 17, 20, 21]).collect();
     assert_eq!(numbers, wanted);
     assert!(reached.values().all(|count| *count >= 40), "{reached:?}");
-    assert!((10..60).contains(&cut), "{cut} scripts end cut");
+    assert!((20..90).contains(&cut), "{cut} scripts end cut");
 }
 
 #[test]
@@ -90,8 +90,8 @@ fn instructions_show_memory_and_room_often() {
 }
 
 /// How often each code occurs in some scripts.
-pub fn codes(kind: Kind) -> [usize; 11] {
-    let mut codes = [0; 11];
+pub fn codes(kind: Kind) -> [usize; 13] {
+    let mut codes = [0; 13];
     for seed in 1..=SCRIPTS {
         for (head, _) in pieces(&stream(kind, seed, RECORDS), 3) {
             if let Some(count) = codes.get_mut(usize::from(head[0])) {
@@ -106,7 +106,7 @@ pub fn codes(kind: Kind) -> [usize; 11] {
 #[test]
 fn calls_are_made_more_often_than_shown() {
     let codes = codes(Kind::Calls);
-    let calls: usize = codes[..5].iter().sum::<usize>() + codes[9] + codes[10];
+    let calls: usize = codes[..5].iter().sum::<usize>() + codes[9..].iter().sum::<usize>();
     assert!(calls as u64 > SCRIPTS * RECORDS * 7 / 10, "{codes:?}");
     assert!(codes.iter().all(|count| *count > 250), "{codes:?}");
     assert!((calls / 6..calls / 4).contains(&codes[6]), "{codes:?}");
@@ -281,7 +281,7 @@ pub fn play_all(script: &[u8], mut watch: impl FnMut(&Bench, u8, &[u8])) {
             (2, 2..) => drop(bench.local(number(&body), &body[2..])),
             (3, 2) => drop(bench.build_into(number(&body).into())),
             (4, 0) => drop(bench.expire()),
-            (5, 0..=2_200) => bench.memory = body,
+            (5, 0..=2_200) => bench = Bench::lend(&body),
             _ => {}
         }
     }
@@ -349,8 +349,8 @@ fn streams_follow_from_their_seed_alone() {
         (Kind::Frames, 0xCFAD_BA21_4B8D_1C8B),
         (measured("mixed"), 0x8F2D_1544_4C08_A106),
         (measured("empty"), 0xD944_AA8A_A327_8099),
-        (Kind::Script, 0x4287_914E_DC55_6B5F),
-        (Kind::Calls, 0x19B7_09C6_9EE8_DB2E),
+        (Kind::Script, 0xB599_AA1C_832D_6B12),
+        (Kind::Calls, 0x9E14_EEC1_BE46_6EE8),
         (Kind::Captures, 0x3354_5649_7394_441E),
     ] {
         let [first, second] = [1, 2].map(|seed| stream(kind, seed, 1_000));

@@ -6,6 +6,7 @@ use port::{PENDING, SUBSCRIBED};
 use programs::rig::code;
 
 use super::script::{Edges, AMPLE};
+use crate::traffic::forms::form_b;
 use crate::traffic::memories::install;
 use crate::traffic::schedules::{commit_all, cycle_nanoseconds, intervals, Values};
 
@@ -263,20 +264,20 @@ fn rooms(edges: &mut Edges) {
     edges.show_room();
     edges.show();
     let sound = edges.rig.memory.clone();
-    edges.instruction(code::LEND, &[0xEE; 9]);
+    edges.lend_octets(&[0xEE; 9]);
     ask_all(edges, &[-1, 0]);
     edges.show_room();
     edges.show();
-    edges.instruction(code::LEND, &sound);
+    edges.lend_octets(&sound);
 }
 
 /// Memory that is lent: a block that is not made of the values beside it, marks and a timer, and then
 /// octets and lengths that make it unsound, with a block that runs and with none.
 fn lent(edges: &mut Edges) {
     edges.fresh();
-    let fresh = edges.rig.memory.clone();
+    let fresh = edges.memory();
     commit(edges, &schedule(&[(0x11, 50), (0x22, 50)], [1, 1]));
-    let mut running = edges.rig.memory.clone();
+    let mut running = edges.memory();
     let other = schedule(&[(0x33, 3), (0x44, 2), (0x55, 1)], [8, BILLION]);
     install(&mut running, COMMIT, Some(&other.concat()));
     for part in PARTS {
@@ -328,7 +329,7 @@ fn in_the_block(edges: &mut Edges, running: &[u8]) {
 
 /// Lends memory, and asks around the base time and in the first cycle.
 fn lend(edges: &mut Edges, memory: &[u8]) {
-    edges.instruction(code::LEND, memory);
+    edges.lend_octets(&form_b(memory));
     ask_all(edges, &[i64::MIN, -1, 0, 2, 3, 5, 7, 8]);
     edges.message_in_full(AMPLE, &[]);
 }

@@ -278,7 +278,7 @@ const OTHERS: [Lent; 12] = [
 fn memories(edges: &Edges) -> Vec<Lent> {
     let mut memories = Vec::new();
     for (index, row) in TABLE.iter().enumerate() {
-        let present = edges.rig.memory[index * ENTRY + 2] & PRESENT;
+        let present = edges.memory()[index * ENTRY + 2] & PRESENT;
         let marks: &[(u8, [u8; 2])] = match row.set_by {
             SetBy::Port => &[
                 (SUBSCRIBED | IN_FLIGHT, [1, 4]),
@@ -302,7 +302,7 @@ fn memories(edges: &Edges) -> Vec<Lent> {
 /// Lends each; where it is sound and has counted four expiries, the call that finds out gives up.
 fn lent(edges: &mut Edges, memories: &[Lent]) {
     edges.fresh();
-    let fresh = edges.rig.memory.clone();
+    let fresh = edges.memory();
     for (index, flags, timer) in memories {
         let mut memory = fresh.clone();
         memory[index * ENTRY + 2] = *flags;

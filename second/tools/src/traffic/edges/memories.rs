@@ -83,9 +83,9 @@ pub fn add(edges: &mut Edges) {
 }
 
 /// Fresh memory, and memory in which every parameter is present, with a block that runs.
-fn bases(edges: &mut Edges) -> [Vec<u8>; 2] {
+pub fn bases(edges: &mut Edges) -> [Vec<u8>; 2] {
     edges.fresh();
-    let fresh = edges.rig.memory.clone();
+    let fresh = edges.memory();
     let parts = [
         vec![0; 10],
         vec![0, 0, 0, 2],
@@ -110,7 +110,7 @@ fn bases(edges: &mut Edges) -> [Vec<u8>; 2] {
             .map_or(0, |row| row.least);
         edges.local(name, &vec![1; length]);
     }
-    [fresh, edges.rig.memory.clone()]
+    [fresh, edges.memory()]
 }
 
 /// Lends memory in which octets are changed.

@@ -4,10 +4,12 @@
 //! `second/wrong` prints other lines.
 
 mod calls;
+mod forms;
 mod gates;
 mod in_flight;
 mod marks;
 mod memories;
+mod moves;
 mod not_served;
 mod positions;
 mod replies;
@@ -32,6 +34,8 @@ pub fn write<W: Write>(count: u64, sink: &mut W) -> io::Result<()> {
     not_served::add(&mut edges);
     replies::add(&mut edges);
     memories::add(&mut edges);
+    forms::add(&mut edges);
+    moves::add(&mut edges);
     gates::add(&mut edges);
     edges.fresh();
     for (instruction, _) in edges.script.iter().zip(0..count) {

@@ -5,6 +5,7 @@ use std::io::{self, Sink};
 use programs::rig::{code, Rig};
 use programs::stream::Lines;
 
+use crate::traffic::forms::{behind, form_b};
 use crate::traffic::operations::Operations;
 use crate::traffic::pieces;
 
@@ -76,11 +77,31 @@ impl Edges {
         self.message(AMPLE, &[4]);
     }
 
-    /// Memory that is lent, and whether it is sound: an expiry returns 1 where it is not, and gates do.
+    /// The memory that is lent, behind the first octet.
+    pub fn memory(&self) -> Vec<u8> {
+        behind(&self.rig.memory).to_vec()
+    }
+
+    /// Memory that is lent in form B, and whether it is sound: an expiry returns 1 where it is not, and
+    /// gates do, and a move back, to which no room is lent.
     pub fn lend(&mut self, memory: &[u8]) {
-        self.instruction(code::LEND, memory);
+        self.lend_octets(&form_b(memory));
         self.expiry();
         self.instruction(code::GATES, &[0; 8]);
+        self.back(0);
+    }
+
+    /// Any octets that are lent as memory.
+    pub fn lend_octets(&mut self, lent: &[u8]) {
+        self.instruction(code::LEND, lent);
+    }
+
+    pub fn forward(&mut self, room: usize) {
+        self.instruction(code::FORWARD, &(room as u16).to_be_bytes());
+    }
+
+    pub fn back(&mut self, room: usize) {
+        self.instruction(code::BACK, &(room as u16).to_be_bytes());
     }
 
     pub fn show(&mut self) {
