@@ -51,15 +51,14 @@ pub const NOTIFICATION_ROOM: usize = wire::NOTIFICATION_ROOM;
 
 pub const NOTIFICATION_MOST: usize = wire::NOTIFICATION_MOST;
 
-// Where the running block stands in what a host keeps: an octet whose lowest bit says that one runs, two octets with its length, and
-// the block itself.
-pub const RUNNING_FLAGS_AT: usize = table::BEHIND_AT
-    + table::CELL_LENGTH * table::COMMIT
-    + table::FLAGS_AT;
+// Where the cell of the running block stands in what a host keeps.
+const RUNNING_CELL_AT: usize = table::BEHIND_AT + table::CELL_LENGTH * table::COMMIT;
 
-pub const RUNNING_LENGTH_AT: usize = table::BEHIND_AT
-    + table::CELL_LENGTH * table::COMMIT
-    + table::SIZE_AT;
+// Where the running block stands there: an octet whose lowest bit says that one runs, two octets with its length, and
+// the block itself.
+pub const RUNNING_FLAGS_AT: usize = RUNNING_CELL_AT + table::FLAGS_AT;
+
+pub const RUNNING_LENGTH_AT: usize = RUNNING_CELL_AT + table::SIZE_AT;
 
 pub const RUNNING_AT: usize = table::BEHIND_AT + table::RUNNING_AT;
 

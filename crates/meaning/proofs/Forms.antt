@@ -32,15 +32,15 @@ pub record FormSpelt (b : List ℕ) : Type 0 where
   pub first : octet b 0 ≡ 2
   pub memory : SoundSpelt (drop 1 b)
 
-pub form-spelt : (b : List ℕ) → soundFormB b ≡ true → FormSpelt b
+pub formB-spelt : (b : List ℕ) → soundFormB b ≡ true → FormSpelt b
 unfolding soundFormB
-form-spelt b e =
+formB-spelt b e =
     let f = form-opened b (and-left _ _ e) in
     record { long = f .long; first = f .first; memory = sound-spelt (drop 1 b) (and-right (inFormB b) _ e) }
 
-pub spelt-form : (b : List ℕ) → FormSpelt b → soundFormB b ≡ true
+pub spelt-formB : (b : List ℕ) → FormSpelt b → soundFormB b ≡ true
 unfolding soundFormB
-spelt-form b f = and-both (form-closed b record { long = f .long; first = f .first }) (spelt-sound (drop 1 b) (f .memory))
+spelt-formB b f = and-both (form-closed b record { long = f .long; first = f .first }) (spelt-sound (drop 1 b) (f .memory))
 
 -- ---- the old form: as form B without the octet ahead, and no flag of a cell worth 8 or more
 

@@ -28,7 +28,7 @@ pub const FORM_AT: usize = 0;
 
 pub const BEHIND_AT: usize = 1;
 
-pub const FORM_LENGTH: usize = BEHIND_AT + MEMORY_LENGTH;
+pub const FORM_LENGTH: usize = 2101;
 
 // Where things stand in a cell, behind its name.
 pub const FLAGS_AT: usize = 2;

@@ -83,11 +83,15 @@ fn told(host: &str) -> Vec<(String, u64)> {
 #[test]
 fn a_host_is_told_the_numbers_of_the_code() {
     let table = constants(&text("crates/table/src/lib.rt"));
-    let cell = table["CELL_LENGTH"] * table["COMMIT"];
+    // A host keeps form B, in which an octet stands ahead of all places of the table.
+    let behind = table["BEHIND_AT"];
+    assert_eq!(behind + table["MEMORY_LENGTH"], table["FORM_LENGTH"]);
+    let cell = behind + table["CELL_LENGTH"] * table["COMMIT"];
     let mut known = constants(&text("crates/wire/src/lib.rt"));
-    known.extend(table.clone());
+    known.insert("MEMORY_LENGTH".into(), table["FORM_LENGTH"]);
     known.insert("RUNNING_FLAGS_AT".into(), cell + table["FLAGS_AT"]);
     known.insert("RUNNING_LENGTH_AT".into(), cell + table["SIZE_AT"]);
+    known.insert("RUNNING_AT".into(), behind + table["RUNNING_AT"]);
     let told = told(&text("docs/HOST.md"));
     let code = text("crates/endpoint/src/lib.rt");
     let offered = code.lines().filter(|line| line.starts_with("pub const "));
