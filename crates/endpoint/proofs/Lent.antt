@@ -1,10 +1,11 @@
 -- Memory in form B, lent on behind its first octet: a call gives what was given on the memory, with 02 ahead of what came back.
-use Prim.Native.Nat.{ℕ, _+_, _-_}
+use Prim.Native.Nat.{ℕ, _+_}
 use native.Mathlib.Omega.{arith}
 use mathlib.Core.Path.{_≡_, refl, sym, ap, _∙_}
 use mathlib.Core.Bool.{true, false}
 use mathlib.Core.List.{List, [], _∷_, _++_, append-nil}
 use lib.ListN.{length, take, drop, set, length-drop, length-set, drop-of-length-le}
+use lib.Seq.{take-all}
 use borrow.Rule.Slice.PartMut.{putMid}
 use Rattle.meaning.specs.Octets.{octet, splice}
 use Rattle.meaning.specs.Table.{memoryLength}
@@ -13,7 +14,7 @@ use Rattle.meaning.specs.FormB.{ahead, behind, soundFormB, formed}
 use Rattle.meaning.specs.Calls as calls
 use Rattle.meaning.proofs.Sendings.{Call, gives}
 use Rattle.meaning.proofs.Formed.{sound-form, sound-opened, givesLent, asksForm, roomOf, unsound-1, sound-gives}
-use Rattle.octets.proofs.Splices.{rest-is, lent-back}
+use Rattle.octets.proofs.Splices.{lent-back}
 use Rattle.endpoint.specs.Outcomes.{Gives, numberOf, lengthOf, positionOf}
 use Rattle.endpoint.specs.declared.Outcome.{Outcome}
 use Rattle.endpoint.specs.declared.Outcome.the-variants.{MemoryUnsound}
@@ -21,34 +22,35 @@ use Rattle.endpoint.proofs.Exits.{gives-number}
 
 -- the octets behind the first, as they are lent on
 abbrev pub rest : List ℕ → List ℕ
-rest b = take (length b - 1) (drop 1 b)
+rest b = take 2100 (drop 1 b)
+
+rest-is : (b : List ℕ) → length b ≡ 2101 → rest b ≡ behind b
+rest-is b h = take-all 2100 (drop 1 b) (omega (arith, length-drop 1 b, h))
 
 -- what came back stands behind the first octet
-came-back : (b m′ : List ℕ) → 1 + length m′ ≡ length b → putMid 1 (length b - 1) b m′ ≡ octet b 0 ∷ m′
+came-back : (b m′ : List ℕ) → length b ≡ 2101 → length m′ ≡ length (rest b) → putMid 1 2100 b m′ ≡ octet b 0 ∷ m′
 unfolding splice
-came-back [] m′ l = absurd (omega (arith, l))
-came-back (x ∷ m) m′ l =
-    lent-back (x ∷ m) m′ 1 (length (x ∷ m)) (omega arith) (omega (arith, l))
-    ∙ ap (λ (t : List ℕ). x ∷ m′ ++ t) (drop-of-length-le (x ∷ m) {i = 1 + length m′} (omega (arith, l)))
+came-back [] m′ h l = absurd (omega (arith, h))
+came-back (x ∷ m) m′ h l =
+    let k : length m′ ≡ 2100 = l ∙ ap length (rest-is (x ∷ m) h) ∙ omega (arith, h) in
+    lent-back (x ∷ m) m′ 1 2101 (omega arith) k
+    ∙ ap (λ (t : List ℕ). x ∷ m′ ++ t) (drop-of-length-le (x ∷ m) {i = 1 + length m′} (omega (arith, h, k)))
     ∙ ap (λ (t : List ℕ). x ∷ t) (append-nil m′)
-
-rest-long : (b : List ℕ) → length (rest b) ≡ length b - 1
-rest-long b = ap length (rest-is b 1) ∙ length-drop 1 b
 
 module _ (b : List ℕ) (e : soundFormB b ≡ true) where
   pub rest-sound : sound (rest b) ≡ true
-  rest-sound = rw (rest-is b 1) (sound-opened b e .1)
+  rest-sound = rw (rest-is b (sound-form b e .long)) (sound-opened b e .1)
 
-  memory-back : (m′ : List ℕ) → length m′ ≡ length (rest b) → putMid 1 (length b - 1) b m′ ≡ ahead m′
+  memory-back : (m′ : List ℕ) → length m′ ≡ length (rest b) → putMid 1 2100 b m′ ≡ ahead m′
   memory-back m′ l =
       let f = sound-form b e in
-      came-back b m′ (omega (arith, l, rest-long b, f .long)) ∙ ap (λ (x : ℕ). x ∷ m′) (f .first)
+      came-back b m′ (f .long) l ∙ ap (λ (x : ℕ). x ∷ m′) (f .first)
 
   -- what a call gave on the memory that was lent on
   pub gives-formed : (c : Call) (r : Outcome) (m′ room′ : List ℕ) → length m′ ≡ length (rest b) → Gives (gives (rest b) c) r m′ room′
-      → Gives (givesLent b c) r (putMid 1 (length b - 1) b m′) room′
+      → Gives (givesLent b c) r (putMid 1 2100 b m′) room′
   gives-formed c r m′ room′ l g =
-      let h : Gives (gives (behind b) c) r m′ room′ = rw (rest-is b 1) at g in
+      let h : Gives (gives (behind b) c) r m′ room′ = rw (rest-is b (sound-form b e .long)) at g in
       rw (sound-gives b c e, memory-back m′ l)
       record { number = h .number; written = h .written; position = h .position; memoryIs = ap ahead (h .memoryIs); roomIs = h .roomIs }
 
@@ -60,11 +62,14 @@ gives-unsound b c a e = gives-number b (roomOf c) 1 MemoryUnsound (unsound-1 b c
 -- ---- making fresh, which writes the first octet too
 
 module _ (b : List ℕ) (h : length b ≡ 2101) where
-  pub marked-long : length (rest (set b 0 2)) ≡ memoryLength
-  marked-long = rest-long (set b 0 2) ∙ omega (arith, length-set b 0 2, h)
+  marked : length (set b 0 2) ≡ 2101
+  marked = length-set b 0 2 ∙ h
 
-  pub fresh-back : (m′ : List ℕ) → length m′ ≡ length (rest (set b 0 2)) → putMid 1 (length (set b 0 2) - 1) (set b 0 2) m′ ≡ 2 ∷ m′
-  fresh-back m′ l = came-back (set b 0 2) m′ (omega (arith, l, marked-long, length-set b 0 2, h)) ∙ ap (λ (x : ℕ). x ∷ m′) (first b h)
+  pub marked-long : length (rest (set b 0 2)) ≡ memoryLength
+  marked-long = ap length (rest-is (set b 0 2) marked) ∙ length-drop 1 (set b 0 2) ∙ omega (arith, marked)
+
+  pub fresh-back : (m′ : List ℕ) → length m′ ≡ length (rest (set b 0 2)) → putMid 1 2100 (set b 0 2) m′ ≡ 2 ∷ m′
+  fresh-back m′ l = came-back (set b 0 2) m′ marked l ∙ ap (λ (x : ℕ). x ∷ m′) (first b h)
     where
       first : (b : List ℕ) → length b ≡ 2101 → octet (set b 0 2) 0 ≡ 2
       first [] k = absurd (omega (arith, k))

@@ -254,7 +254,11 @@ pub fn message(memory: &mut [u8], sent: &[u8], room: &mut [u8]) -> Outcome
     if !soundness::sound_form_b(memory) {
         return Outcome::MemoryUnsound;
     }
-    take_message(&mut memory[table::BEHIND_AT..], sent, room)
+    take_message(
+        &mut memory[table::BEHIND_AT..table::FORM_LENGTH],
+        sent,
+        room,
+    )
 }
 
 // A local value taken: a name that the port sets, and its value, or none to make it absent.
@@ -264,7 +268,11 @@ pub fn local_value(memory: &mut [u8], name: usize, value: &[u8]) -> Outcome
     if !soundness::sound_form_b(memory) {
         return Outcome::MemoryUnsound;
     }
-    take_value(&mut memory[table::BEHIND_AT..], name, value)
+    take_value(
+        &mut memory[table::BEHIND_AT..table::FORM_LENGTH],
+        name,
+        value,
+    )
 }
 
 // A notification built of all that is pending. It is to be sent, and waits for its acknowledgement.
@@ -274,7 +282,7 @@ pub fn build(memory: &mut [u8], room: &mut [u8]) -> Outcome
     if !soundness::sound_form_b(memory) {
         return Outcome::MemoryUnsound;
     }
-    build_due(&mut memory[table::BEHIND_AT..], room)
+    build_due(&mut memory[table::BEHIND_AT..table::FORM_LENGTH], room)
 }
 
 // A timer expiry taken, of the timer that runs from the sending of a notification.
@@ -284,7 +292,7 @@ pub fn expiry(memory: &mut [u8]) -> Outcome
     if !soundness::sound_form_b(memory) {
         return Outcome::MemoryUnsound;
     }
-    take_expiry(&mut memory[table::BEHIND_AT..])
+    take_expiry(&mut memory[table::BEHIND_AT..table::FORM_LENGTH])
 }
 
 // Memory made fresh, whatever it holds.
@@ -295,7 +303,7 @@ pub fn make_fresh(memory: &mut [u8]) -> Outcome
         return Outcome::MemoryUnsound;
     }
     memory[table::FORM_AT] = table::FORM_B;
-    memory::make_fresh(&mut memory[table::BEHIND_AT..]);
+    memory::make_fresh(&mut memory[table::BEHIND_AT..table::FORM_LENGTH]);
     Outcome::Done(0)
 }
 

@@ -27,13 +27,13 @@ returns c =
     gives-unsound (a .memory .now) (buildIn (a .room .now)) refl (sym (c .before .sound-form-b .ensures) ∙ denied _ (c .if1 .taken))
 
 sub-build-due : tie.Need-sub-build-due
-sub-build-due c = omega (arith, sound-form _ (tested c) .long)
+sub-build-due c = search needs
 
 part-build-due-start : tie.Need-part-build-due-start
-part-build-due-start c = omega (arith, sound-form _ (tested c) .long)
+part-build-due-start c = search needs
 
 part-build-due-end : tie.Need-part-build-due-end
-part-build-due-end c = search needs
+part-build-due-end c = omega (arith, sound-form _ (tested c) .long)
 
 build-due-requires : tie.Need-build-due-requires
 build-due-requires c κs = rest-sound _ (tested (c .before .before))

@@ -27,13 +27,13 @@ returns c =
     gives-unsound (c .before .before .before .before .args .memory .now) takeExpiry refl (sym (c .before .sound-form-b .ensures) ∙ denied _ (c .if1 .taken))
 
 sub-take-expiry : tie.Need-sub-take-expiry
-sub-take-expiry c = omega (arith, sound-form _ (tested c) .long)
+sub-take-expiry c = search needs
 
 part-take-expiry-start : tie.Need-part-take-expiry-start
-part-take-expiry-start c = omega (arith, sound-form _ (tested c) .long)
+part-take-expiry-start c = search needs
 
 part-take-expiry-end : tie.Need-part-take-expiry-end
-part-take-expiry-end c = search needs
+part-take-expiry-end c = omega (arith, sound-form _ (tested c) .long)
 
 take-expiry-requires : tie.Need-take-expiry-requires
 take-expiry-requires c κs = rest-sound _ (tested (c .before))

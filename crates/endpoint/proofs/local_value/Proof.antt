@@ -28,13 +28,13 @@ returns c =
     gives-unsound (a .memory .now) (takeValue (a .name) (a .value .now)) refl (sym (c .before .sound-form-b .ensures) ∙ denied _ (c .if1 .taken))
 
 sub-take-value : tie.Need-sub-take-value
-sub-take-value c = omega (arith, sound-form _ (tested c) .long)
+sub-take-value c = search needs
 
 part-take-value-start : tie.Need-part-take-value-start
-part-take-value-start c = omega (arith, sound-form _ (tested c) .long)
+part-take-value-start c = search needs
 
 part-take-value-end : tie.Need-part-take-value-end
-part-take-value-end c = search needs
+part-take-value-end c = omega (arith, sound-form _ (tested c) .long)
 
 take-value-requires : tie.Need-take-value-requires
 take-value-requires c κs = rest-sound _ (tested (c .before))

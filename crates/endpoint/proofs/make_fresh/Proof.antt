@@ -23,13 +23,13 @@ slice-write-memory : tie.Need-slice-write-memory
 slice-write-memory c = search needs
 
 sub-make-fresh : tie.Need-sub-make-fresh
-sub-make-fresh c = omega (arith, length-set (c .before .before .args .memory .now) 0 2, c .if1 .left)
+sub-make-fresh c = search needs
 
 part-make-fresh-start : tie.Need-part-make-fresh-start
-part-make-fresh-start c = omega (arith, length-set (c .before .before .args .memory .now) 0 2, c .if1 .left)
+part-make-fresh-start c = search needs
 
 part-make-fresh-end : tie.Need-part-make-fresh-end
-part-make-fresh-end c = search needs
+part-make-fresh-end c = omega (arith, length-set (c .before .before .args .memory .now) 0 2, c .if1 .left)
 
 make-fresh-requires : tie.Need-make-fresh-requires
 make-fresh-requires c κs = marked-long (c .before .before .before .args .memory .now) (c .before .if1 .left)

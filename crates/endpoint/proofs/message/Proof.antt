@@ -27,13 +27,13 @@ returns c =
     gives-unsound (a .memory .now) (takeMessage (a .sent .now) (a .room .now)) refl (sym (c .before .sound-form-b .ensures) ∙ denied _ (c .if1 .taken))
 
 sub-take-message : tie.Need-sub-take-message
-sub-take-message c = omega (arith, sound-form _ (tested c) .long)
+sub-take-message c = search needs
 
 part-take-message-start : tie.Need-part-take-message-start
-part-take-message-start c = omega (arith, sound-form _ (tested c) .long)
+part-take-message-start c = search needs
 
 part-take-message-end : tie.Need-part-take-message-end
-part-take-message-end c = search needs
+part-take-message-end c = omega (arith, sound-form _ (tested c) .long)
 
 take-message-requires : tie.Need-take-message-requires
 take-message-requires c κs = rest-sound _ (tested (c .before .before))

@@ -39,13 +39,12 @@ slice-write-room c = search needs
 append-requires : tie.Need-append-requires
 append-requires c κs =
     let e = c .before in
-    let a = e .before .before .before .before .before .args in
-    omega (arith, length-set (a .room .now) 0 2, e .if2 .left, opened _ (old-sound _ (tested (e .before))) .long)
+    simp length-set (omega (arith, e .if2 .left, opened _ (old-sound _ (tested (e .before))) .long))
 
 same-length : tie.Need-same-length
 same-length c =
     let p = c .before .before in
-    p .append .kept .0 ∙ length-set (p .before .before .before .before .before .before .before .args .room .now) 0 2
+    simp length-set at (p .append .kept .0)
 
 returns-3 : tie.Need-returns-3
 returns-3 c =
