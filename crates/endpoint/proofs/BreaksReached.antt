@@ -9,7 +9,7 @@ use Rattle.meaning.specs.Calls.{Outcome, operations}
 use Rattle.meaning.specs.FormB.{behind, message}
 use Rattle.meaning.proofs.Lists.{Octets}
 use Rattle.meaning.proofs.Breaks.{Breaks}
-use Rattle.meaning.proofs.Positions.{message-breaks, message-nowhere}
+use Rattle.meaning.proofs.Positions.{message-breaks}
 use Rattle.meaning.proofs.Sendings.{takeMessage, gives}
 use Rattle.meaning.proofs.Formed.{givesLent, asksForm, lent-nowhere, not-1-formed}
 use Rattle.endpoint.specs.Outcomes.{numberOf, positionOf}

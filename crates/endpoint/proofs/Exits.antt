@@ -8,15 +8,15 @@ use mathlib.Core.Option.{Option, none, some}
 use mathlib.Core.List.{List, [], _∷_, _++_}
 use lib.ListN.{length, take, drop, set}
 use denote.Enum.Declared.{tagOf}
-use borrow.Author.Tests.{le-leb, lt-leb, eq-eqb}
+use borrow.Author.Tests.{le-leb, lt-leb}
 use Rattle.meaning.specs.Octets.{nonempty, octet, at16, part, implies, every}
 use Rattle.meaning.specs.Checks.{firstFailed, whenPassed}
-use Rattle.meaning.specs.Table.{place, entryCount, memoryLength}
-use Rattle.meaning.specs.Memory.{waiting, expiries, setTimer, sound, fresh}
+use Rattle.meaning.specs.Table.{place, entryCount}
+use Rattle.meaning.specs.Memory.{waiting, expiries, setTimer, sound}
 use Rattle.meaning.specs.Operation.{Op, parse, isSome, orNone, breakOf}
 use Rattle.meaning.specs.Step.{after}
 use Rattle.meaning.specs.Reply.{complete}
-use Rattle.meaning.specs.Calls.{whenAcknowledged, localPermitted, localMemory, localChecks, localValue, reports, buildChecks, build, makeFresh, done, numberOnly, call, isCommand, isAcknowledgement, lengthField, operations, opsOf, records, carriedOut, acknowledged, handled, fits, messageChecks, located, message}
+use Rattle.meaning.specs.Calls.{whenAcknowledged, localPermitted, localMemory, localChecks, localValue, reports, buildChecks, build, done, numberOnly, call, isCommand, isAcknowledgement, lengthField, operations, opsOf, records, carriedOut, acknowledged, handled, fits, messageChecks, located, message}
 use Rattle.meaning.specs.Calls as calls
 use Rattle.meaning.proofs.Checked.{unlocated}
 use Rattle.meaning.proofs.Kept.{idled}

@@ -1,7 +1,7 @@
 -- Memory in form B, lent on behind its first octet: a call gives what was given on the memory, with 02 ahead of what came back.
 use Prim.Native.Nat.{ℕ, _+_}
 use native.Mathlib.Omega.{arith}
-use mathlib.Core.Path.{_≡_, refl, sym, ap, _∙_}
+use mathlib.Core.Path.{_≡_, refl, ap, _∙_}
 use mathlib.Core.Bool.{true, false}
 use mathlib.Core.List.{List, [], _∷_, _++_, append-nil}
 use lib.ListN.{length, take, drop, set, length-drop, length-set, drop-of-length-le}
@@ -10,8 +10,7 @@ use borrow.Rule.Slice.PartMut.{putMid}
 use Rattle.meaning.specs.Octets.{octet, splice}
 use Rattle.meaning.specs.Table.{memoryLength}
 use Rattle.meaning.specs.Memory.{sound}
-use Rattle.meaning.specs.FormB.{ahead, behind, soundFormB, formed}
-use Rattle.meaning.specs.Calls as calls
+use Rattle.meaning.specs.FormB.{ahead, behind, soundFormB}
 use Rattle.meaning.proofs.Sendings.{Call, gives}
 use Rattle.meaning.proofs.Formed.{sound-form, sound-opened, givesLent, asksForm, roomOf, unsound-1, sound-gives}
 use Rattle.octets.proofs.Splices.{lent-back}
@@ -61,16 +60,19 @@ gives-unsound b c a e = gives-number b (roomOf c) 1 MemoryUnsound (unsound-1 b c
 
 -- ---- making fresh, which writes the first octet too
 
-module _ (b : List ℕ) (h : length b ≡ 2101) where
-  marked : length (set b 0 2) ≡ 2101
-  marked = length-set b 0 2 ∙ h
+module _ (b : List ℕ) (x : ℕ) (h : length b ≡ 2101) where
+  marked : length (set b 0 x) ≡ 2101
+  marked = length-set b 0 x ∙ h
 
-  pub marked-long : length (rest (set b 0 2)) ≡ memoryLength
-  marked-long = ap length (rest-is (set b 0 2) marked) ∙ length-drop 1 (set b 0 2) ∙ omega (arith, marked)
+  pub marked-long : length (rest (set b 0 x)) ≡ memoryLength
+  marked-long = ap length (rest-is (set b 0 x) marked) ∙ length-drop 1 (set b 0 x) ∙ omega (arith, marked)
 
-  pub fresh-back : (m′ : List ℕ) → length m′ ≡ length (rest (set b 0 2)) → putMid 1 2100 (set b 0 2) m′ ≡ 2 ∷ m′
-  fresh-back m′ l = came-back (set b 0 2) m′ marked l ∙ ap (λ (x : ℕ). x ∷ m′) (first b h)
+  pub fresh-back : (m′ : List ℕ) → length m′ ≡ length (rest (set b 0 x)) → putMid 1 2100 (set b 0 x) m′ ≡ x ∷ m′
+  fresh-back m′ l = came-back (set b 0 x) m′ marked l ∙ ap (λ (y : ℕ). y ∷ m′) (first b h)
     where
-      first : (b : List ℕ) → length b ≡ 2101 → octet (set b 0 2) 0 ≡ 2
+      first : (b : List ℕ) → length b ≡ 2101 → octet (set b 0 x) 0 ≡ x
       first [] k = absurd (omega (arith, k))
-      first (x ∷ m) k = refl
+      first (y ∷ m) k = refl
+
+  pub fresh-same : (m′ : List ℕ) → length m′ ≡ length (rest (set b 0 x)) → length (putMid 1 2100 (set b 0 x) m′) ≡ length b
+  fresh-same m′ l = ap length (fresh-back m′ l) ∙ omega (arith, l, marked-long, h)

@@ -12,7 +12,7 @@ use Rattle.meaning.specs.Calls as calls
 use Rattle.meaning.specs.FormB.{ahead, behind, formed, message}
 use Rattle.meaning.proofs.Lists.{Each, Octets}
 use Rattle.meaning.proofs.Decode.{decode}
-use Rattle.meaning.proofs.Sendings.{takeMessage, gives}
+use Rattle.meaning.proofs.Sendings.{takeMessage}
 use Rattle.meaning.proofs.Formed.{message-behind, givesLent, asksForm, not-1-formed}
 use Rattle.meaning.proofs.Cut.{commandOf, Part, joinedParts, Sent, partsOf, sendsWith, inOneRoom, lastMemory, joinedReplies, CarriedOut, Cut, Roomy, cut-rooms, cut}
 use Rattle.endpoint.specs.Outcomes.{Gives, numberOf, lengthOf}

@@ -13,7 +13,7 @@ use borrow.Author.Tests.{eqb-true, eq-eqb, ne-eqb}
 use Rattle.meaning.specs.Octets.{octet}
 use Rattle.meaning.specs.Checks.{firstFailed, whenPassed}
 use Rattle.meaning.specs.Table.{memoryLength}
-use Rattle.meaning.specs.Memory.{sound, fresh}
+use Rattle.meaning.specs.Memory.{sound}
 use Rattle.meaning.specs.Calls.{Outcome, numberOnly, call}
 use Rattle.meaning.specs.Calls as calls
 use Rattle.meaning.specs.Gates.{refused}

@@ -1,23 +1,21 @@
 -- The two forms on octets: each test said clause by clause (RULES 23.2, 23.3, 23.6), memories that are just in form or just not, and a life in form B.
-use Prim.Native.Nat.{ℕ, suc, _+_, _*_, _/_, _%_, _<_}
+use Prim.Native.Nat.{ℕ, _+_, _*_, _/_, _%_, _<_}
 use native.Mathlib.Omega.{arith}
-use mathlib.Core.Path.{_≡_, refl, sym, ap, _∙_}
+use mathlib.Core.Path.{_≡_, refl, _∙_}
 use mathlib.Core.Bool.{Bool, true, false, _&&_}
 use mathlib.Core.List.{List, [], _∷_, _++_, map}
 use lib.ListN.{length, take, drop, replicate}
-use lib.Dec.{eqb}
 use borrow.Author.Tests.{ne-eqb}
 use Rattle.meaning.specs.Octets.{octet, zeros}
-use Rattle.meaning.specs.Table.{entryCount}
-use Rattle.meaning.specs.Memory.{present, subscribed, pending, inFlight, bit, flags, sound}
-use Rattle.meaning.specs.FormB.{behind, inFormB, soundFormB, lent, message, localValue, build, expiry, makeFresh, gates}
+use Rattle.meaning.specs.Memory.{present, subscribed, pending, bit, flags, sound}
+use Rattle.meaning.specs.FormB.{inFormB, soundFormB, lent, message, localValue, build, expiry, makeFresh}
 use Rattle.meaning.specs.Moves.{noneInFlight, soundOld, forwardChecks, forward, backChecks, back}
 use Rattle.meaning.proofs.All.{all}
 use Rattle.meaning.proofs.Tests.{and-left, and-right, and-both}
 use Rattle.meaning.proofs.Contents.{flag-bits}
 use Rattle.meaning.proofs.Spelt.{SoundSpelt, sound-spelt, spelt-sound}
 use Rattle.meaning.proofs.Flights.{flags-octet}
-use Rattle.meaning.proofs.Sendings.{Call, refresh, takeMessage, takeValue, buildIn, takeExpiry}
+use Rattle.meaning.proofs.Sendings.{Call, refresh, takeValue, buildIn, takeExpiry}
 use Rattle.meaning.proofs.Wording.{twoOctets, withLength, reading, subscribing, heldRecord, failedRecord, withCount}
 use Rattle.meaning.proofs.Edges.{four, one, two, right, exact, blockOf}
 use Rattle.meaning.proofs.Laid.{holding, laid, with, fresh-entries, runningBlock, full}

@@ -4,7 +4,7 @@ use native.Mathlib.Nat.{zero-add}
 use native.Mathlib.Omega.{arith}
 use mathlib.Core.Path.{_≡_, sym, _∙_}
 use mathlib.Core.List.{List, _++_}
-use lib.ListN.{length, take, drop, replicate, length-drop, length-replicate, take-append-drop}
+use lib.ListN.{length, take, drop, replicate, length-replicate, take-append-drop}
 use lib.Seq.{drop-at, length-take-le}
 use Rattle.meaning.specs.Octets.{splice}
 use Rattle.meaning.specs.Delay.{lowFirst, delay}
