@@ -9,8 +9,8 @@ pub const FILL: u8 = 0xA5;
 /// A room that every reply fits.
 pub const AMPLE: usize = 4_096;
 
-/// The first octet of what is lent in form B (RULES 23.1).
-const FORM_B: u8 = 2;
+/// The profile of fresh memory, where a test names none.
+const USUAL: u8 = 2;
 
 /// One port's memory, with a watch on what each call may change.
 #[derive(Clone)]
@@ -22,17 +22,31 @@ pub struct Bench {
 }
 
 impl Bench {
-    /// Fresh memory.
+    /// Fresh memory, of profile 02.
     pub fn fresh() -> Bench {
+        Bench::fresh_of(USUAL)
+    }
+
+    /// Fresh memory of a profile.
+    pub fn fresh_of(profile: u8) -> Bench {
         let mut bench = Bench::of(vec![0xEE; 2_100]);
-        assert_eq!(bench.make_fresh(), 0);
+        assert_eq!(bench.make_fresh_of(profile), 0);
         bench
     }
 
-    /// Any memory, in form B if it has 2,100 octets.
+    /// Any memory, in form B if it has 2,100 octets, and of profile 02.
     pub fn of(memory: Vec<u8>) -> Bench {
-        let first = Some(FORM_B);
+        let first = Some(USUAL);
         Bench { first, memory }
+    }
+
+    /// The same memory with the first octet of a profile, be it sound there or not.
+    pub fn with_profile(&self, profile: u8) -> Bench {
+        let first = Some(profile);
+        Bench {
+            first,
+            ..self.clone()
+        }
     }
 
     /// Any octets that are lent as memory.
@@ -47,10 +61,21 @@ impl Bench {
         self.first.into_iter().chain(self.memory.clone()).collect()
     }
 
-    /// The call that makes memory fresh.
+    /// The call that makes memory fresh, for profile 02.
     pub fn make_fresh(&mut self) -> u8 {
-        let number = self.watched(0, |memory, _| port::make_fresh(memory)).0;
-        assert!(number != 0 || self.first == Some(FORM_B));
+        self.make_fresh_of(USUAL)
+    }
+
+    /// The call that makes memory fresh. It alone writes the first octet.
+    pub fn make_fresh_of(&mut self, profile: u8) -> u8 {
+        let before = self.lent();
+        let mut lent = before.clone();
+        let answer = port::make_fresh(&mut lent, profile);
+        let number = answer.number as u8;
+        *self = Bench::lend(&lent);
+        assert_eq!([answer.length, answer.position], [0, 0]);
+        assert!(number != 0 || self.first == Some(profile));
+        assert!(number == 0 || lent == before, "memory changed by a refusal");
         number
     }
 
@@ -174,8 +199,8 @@ impl Bench {
         *self = Bench::lend(&lent);
         assert_eq!(number == 6, answer.position != 0, "{answer:?}");
         match number {
-            // Making fresh writes the first octet, and no other call changes it (RULES 23.4).
-            0 => assert!(lent.first() == before.first() || self.first == Some(FORM_B)),
+            // Making fresh alone writes the first octet (RULES 23.4).
+            0 => assert_eq!(lent.first(), before.first()),
             20 | 21 => {
                 assert_eq!(answer.length, 0);
                 let (first, memory) = before.split_first().unwrap();

@@ -6,6 +6,8 @@ pub const LIST_ENTRY: usize = 7;
 const BEFORE_LIST: usize = 14;
 /// Octets after the list in a block: the cycle time.
 const AFTER_LIST: usize = 8;
+/// Octets of a block beside its list.
+pub const BESIDE_LIST: usize = BEFORE_LIST + AFTER_LIST;
 
 /// The four values of a block, in the order of their names.
 pub struct Block<'a>(pub [&'a [u8]; 4]);

@@ -6,13 +6,14 @@
 use crate::block::Block;
 use crate::memory::{Port, IN_FLIGHT, PENDING, SUBSCRIBED};
 use crate::operation::Operation;
+use crate::profile::Profile;
 use crate::reply::{Cause, Outcome, Record};
-use crate::table::{self, SetBy, COMMIT, COUNT, PARTS, TABLE};
+use crate::table::{SetBy, COMMIT, COUNT, PARTS, TABLE};
 
 /// The changes of a command's operations.
 #[derive(Default)]
 pub struct Draft<'m> {
-    /// Values set so far; for the commit, its sums.
+    /// Values set so far, as memory is to keep them; for the commit, its sums.
     values: [Option<&'m [u8]>; COUNT],
     /// The `values` of the four parts when the last commit succeeded.
     committed: [Option<&'m [u8]>; PARTS.len()],
@@ -28,19 +29,19 @@ impl<'m> Draft<'m> {
     /// Carries out one operation.
     pub fn act<'s>(&'s mut self, port: &'s Port, operation: Operation<'m>) -> Outcome<'s> {
         match operation {
-            Operation::GetCapabilities => Outcome::Capabilities,
+            Operation::GetCapabilities => Outcome::Capabilities(port.profile.names),
             Operation::Read(name) => Outcome::Record(Record::of_read(name, self.read(port, name))),
             Operation::Set(name, value) => {
                 let stored = self.set(port, name, value).map(|()| value);
                 Outcome::Record(Record::of_set(name, stored))
             }
             Operation::Subscribe(name) => {
-                self.subscribed |= bit(name);
+                self.subscribed |= bit(port.profile, name);
                 Outcome::Silent
             }
             Operation::Unsubscribe(name) => {
-                self.cleared |= bit(name);
-                self.subscribed &= !bit(name);
+                self.cleared |= bit(port.profile, name);
+                self.subscribed &= !bit(port.profile, name);
                 Outcome::Silent
             }
             // What is not served fails for every name, the unlisted ones too (RULES 11.26, 11.27).
@@ -86,26 +87,29 @@ impl<'m> Draft<'m> {
     }
 
     fn read<'s>(&'s mut self, port: &'s Port, name: u16) -> Result<&'s [u8], Cause> {
-        let index = table::find(name).ok_or(Cause::NotSupported)?;
+        let profile = port.profile;
+        let index = profile.find(name).ok_or(Cause::NotSupported)?;
         if index == COMMIT && self.values[COMMIT].is_none() {
             let running = port.value(COMMIT).and_then(Block::split);
-            let running = running.ok_or(Cause::Unavailable)?;
+            let running = running.ok_or(profile.absent)?;
             return Ok(self.sums.get_or_insert_with(|| running.sums()));
         }
-        self.values[index]
-            .or(port.value(index))
-            .ok_or(Cause::Unavailable)
+        let kept = self.values[index].or(port.value(index));
+        kept.map(|kept| profile.told(index, kept))
+            .ok_or(profile.absent)
     }
 
     fn set(&mut self, port: &Port, name: u16, value: &'m [u8]) -> Result<(), Cause> {
-        let index = table::find(name).ok_or(Cause::NotSupported)?;
-        if TABLE[index].set_by != SetBy::Controller {
+        let profile = port.profile;
+        let index = profile.find(name).ok_or(Cause::NotSupported)?;
+        if TABLE[index].set_by != SetBy::Controller || value.len() > profile.longest_set {
             return Err(Cause::Unspecified);
         }
+        let kept = profile.kept(index, value).ok_or(Cause::InvalidValue)?;
         let permitted = if index == COMMIT {
-            self.commits(port, value)
+            self.commits(port, kept)
         } else {
-            TABLE[index].permits(value)
+            TABLE[index].permits(kept)
         };
         if !permitted {
             return Err(Cause::InvalidValue);
@@ -113,7 +117,7 @@ impl<'m> Draft<'m> {
         if index == COMMIT {
             self.committed = PARTS.map(|part| self.values[part]);
         }
-        self.values[index] = Some(value);
+        self.values[index] = Some(kept);
         Ok(())
     }
 
@@ -132,6 +136,6 @@ impl<'m> Draft<'m> {
 }
 
 /// The bit of a name; none for an unlisted one, on which marks do nothing.
-fn bit(name: u16) -> u32 {
-    table::find(name).map_or(0, |index| 1 << index)
+fn bit(profile: &Profile, name: u16) -> u32 {
+    profile.find(name).map_or(0, |index| 1 << index)
 }

@@ -3,7 +3,8 @@
 use crate::draft::Draft;
 use crate::memory::{Expiry, Port, FRESH, PENDING, SUBSCRIBED};
 use crate::operation::{Malformed, Operations};
-use crate::reply::{Cause, Measure, Outcome, Record, Writer};
+use crate::profile::Profile;
+use crate::reply::{Measure, Outcome, Record, Writer};
 use crate::table::{self, SetBy, COUNT, TABLE};
 
 const COMMAND: u8 = 0x01;
@@ -54,6 +55,10 @@ pub enum Number {
     RoomNotExact = 16,
     /// A move back while a name is in flight (RULES 23.9).
     InFlight = 17,
+    /// No such profile as memory is to be made fresh for.
+    UnknownProfile = 18,
+    /// A move back of memory of profile 03, which has no old form.
+    NoOldForm = 19,
     /// The notification is to be sent again.
     SendAgain = 20,
     /// The notification is given up.
@@ -107,13 +112,21 @@ impl<R: Into<Answer>> From<Result<usize, R>> for Answer {
     }
 }
 
-/// Makes lent memory of 2,101 octets fresh, in form B, whatever it held.
-pub fn make_fresh(memory: &mut [u8]) -> Answer {
+/// Makes lent memory of 2,101 octets fresh, in form B, whatever it held. Its profile is the one with this
+/// octet.
+pub fn make_fresh(memory: &mut [u8], profile: u8) -> Answer {
+    fresh_result(memory, profile).into()
+}
+
+fn fresh_result(memory: &mut [u8], profile: u8) -> Result<usize, Number> {
     let sized = memory.len() == FRESH.len();
-    if sized {
-        memory.copy_from_slice(&FRESH);
+    if !sized {
+        return Err(Number::MemoryUnsound);
     }
-    sized.then_some(0).ok_or(Number::MemoryUnsound).into()
+    let profile = Profile::of(profile).ok_or(Number::UnknownProfile)?;
+    memory.copy_from_slice(&FRESH);
+    memory[0] = profile.octet;
+    Ok(0)
 }
 
 /// Takes a message and writes the reply to the start of `room`.
@@ -150,7 +163,7 @@ fn operation_list(after_type: &[u8]) -> Result<&[u8], Number> {
 fn command(port: &mut Port, list: &[u8], room: &mut [u8]) -> Result<usize, Answer> {
     let mut trial = Draft::default();
     let mut measure = Measure::default();
-    for operation in Operations::of(list) {
+    for operation in Operations::of(list, port.profile) {
         let operation = operation?;
         measure.add(&trial.act(port, operation));
     }
@@ -159,7 +172,7 @@ fn command(port: &mut Port, list: &[u8], room: &mut [u8]) -> Result<usize, Answe
 
     let mut draft = Draft::default();
     let mut writer = Writer::reply(room, &measure);
-    for operation in Operations::of(list).flatten() {
+    for operation in Operations::of(list, port.profile).flatten() {
         writer.add(&draft.act(port, operation));
     }
     draft.store(port);
@@ -230,7 +243,7 @@ fn build_result(memory: &mut [u8], room: &mut [u8]) -> Result<usize, Number> {
 fn pending_status<'a>(port: &'a Port) -> impl Iterator<Item = Outcome<'a>> {
     let pending = (0..COUNT).filter(|&index| port.flags(index) & PENDING != 0);
     pending.map(|index| {
-        let value = port.value(index).ok_or(Cause::Unavailable);
+        let value = port.value(index).ok_or(port.profile.absent);
         Outcome::Record(Record::of_read(TABLE[index].name, value))
     })
 }

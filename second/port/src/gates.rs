@@ -37,7 +37,7 @@ impl Gates {
 
 /// Tells which gates are open at an instant, in nanoseconds since the base time. Memory is only read.
 pub fn gates(memory: &[u8], instant: i64) -> Gates {
-    let Some(octets) = sound_in_form_b(memory) else {
+    let Some((_, octets)) = sound_in_form_b(memory) else {
         return Gates::Refused(Number::MemoryUnsound);
     };
     let Some(running) = value_in(octets, COMMIT) else {

@@ -15,6 +15,7 @@ mod memory;
 mod moves;
 mod octets;
 mod operation;
+mod profile;
 mod reply;
 mod rules;
 
@@ -27,8 +28,9 @@ pub use delay::{DelayUnits, Nanoseconds};
 pub use endpoint::{
     build_notification, make_fresh, take_expiry, take_local_value, take_message, Answer, Number,
 };
-pub use form::{behind_first, FORM_B, LENT};
+pub use form::{behind_first, LENT};
 pub use gates::{gates, Gates};
 pub use memory::{sound_in_form_b, value_in, FRESH, IN_FLIGHT, PENDING, PRESENT, SUBSCRIBED};
 pub use moves::{move_back, move_forward};
+pub use profile::{Profile, RELEASE_16, RELEASE_18};
 pub use reply::Cause;

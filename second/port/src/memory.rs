@@ -1,9 +1,11 @@
 //! Port memory: what sound memory is, and reading and changing memory known to be sound.
 
+use crate::block::{BESIDE_LIST, LIST_ENTRY};
 use crate::form::{behind_first, behind_first_mut, write_form_b, LENT};
+use crate::profile::{Profile, RELEASE_18};
 use crate::table::{
-    Parameter, SetBy, BODIES, COMMIT, COUNT, ENTRY, EXPIRIES, GATE_ENABLED, LIST_MAX, PARTS, SIZE,
-    TABLE, TIMER,
+    Parameter, SetBy, BODIES, COMMIT, COUNT, ENTRY, EXPIRIES, GATE_ENABLED, LIST, LIST_MAX, PARTS,
+    SIZE, TABLE, TIMER,
 };
 
 /// Flag of an entry whose value is present.
@@ -20,7 +22,7 @@ const WAITING: u8 = 1;
 /// Expiries that are answered by sending again.
 const RESENDS: u8 = 4;
 
-/// Fresh memory, in form B.
+/// Fresh memory of profile 02, in form B.
 pub static FRESH: [u8; LENT] = {
     let mut octets = [0; SIZE];
     let mut index = 0;
@@ -50,14 +52,16 @@ pub enum Expiry {
 
 /// Sound memory, lent for one call.
 pub struct Port<'a> {
+    /// Whose controllers it serves.
+    pub profile: &'static Profile,
     octets: &'a mut [u8; SIZE],
 }
 
 impl<'a> Port<'a> {
     /// Takes lent memory if it is sound in form B.
     pub fn lend(memory: &'a mut [u8]) -> Option<Port<'a>> {
-        let octets = behind_first_mut(memory)?;
-        is_sound(octets).then_some(Port { octets })
+        let (profile, octets) = behind_first_mut(memory)?;
+        is_sound(profile, octets).then_some(Port { profile, octets })
     }
 
     /// The flags of an entry.
@@ -161,15 +165,15 @@ impl<'a> Port<'a> {
     }
 }
 
-/// The 2,100 octets of lent memory that is to be read alone, if it is sound in form B.
-pub fn sound_in_form_b(memory: &[u8]) -> Option<&[u8; SIZE]> {
-    behind_first(memory).filter(|octets| is_sound(octets))
+/// The profile and the 2,100 octets of lent memory that is to be read alone, if it is sound in form B.
+pub fn sound_in_form_b(memory: &[u8]) -> Option<(&'static Profile, &[u8; SIZE])> {
+    behind_first(memory).filter(|(profile, octets)| is_sound(profile, octets))
 }
 
 /// Memory of the old form, if it is sound there: nothing is in flight (RULES 23.6).
 pub fn sound_in_old_form(memory: &[u8]) -> Option<&[u8; SIZE]> {
     let octets = memory.try_into().ok()?;
-    (is_sound(octets) && !is_in_flight(octets)).then_some(octets)
+    (is_sound(&RELEASE_18, octets) && !is_in_flight(octets)).then_some(octets)
 }
 
 /// Whether an entry is in flight.
@@ -218,7 +222,7 @@ impl Entry {
     }
 }
 
-fn is_sound(octets: &[u8; SIZE]) -> bool {
+fn is_sound(profile: &Profile, octets: &[u8; SIZE]) -> bool {
     let mut present = [false; COUNT];
     let flags = known_flags(octets[TIMER]);
     // Absent rooms and the tails of values join up, so one look covers all between two values.
@@ -245,6 +249,16 @@ fn is_sound(octets: &[u8; SIZE]) -> bool {
         && present[LIST_MAX]
         && (!present[COMMIT] || PARTS.iter().all(|&part| present[part]))
         && is_timer(octets[TIMER], octets[EXPIRIES])
+        && keeps(profile, octets)
+}
+
+/// What of sound memory differs by its profile: how long a list is, that of the running block too, and
+/// that a name which is not listed has no marks.
+fn keeps(profile: &Profile, octets: &[u8; SIZE]) -> bool {
+    let longest = profile.most_entries * LIST_ENTRY;
+    Entry::of(octets, LIST).length <= longest
+        && Entry::of(octets, COMMIT).length <= longest + BESIDE_LIST
+        && (profile.lists(LIST_MAX) || Entry::of(octets, LIST_MAX).flags == PRESENT)
 }
 
 /// The flags that there are: while idle nothing is in flight.

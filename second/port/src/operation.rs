@@ -1,6 +1,7 @@
 //! The operations of a command, as they follow one another in its octets (RULES 10.10).
 
 use crate::octets::Octets;
+use crate::profile::Profile;
 
 /// One operation.
 #[derive(Clone, Copy, Debug, PartialEq, Eq)]
@@ -42,14 +43,17 @@ pub struct Operations<'m> {
     rest: Octets<'m>,
     /// Where the list ends in the message.
     end: usize,
+    /// The highest code that there is.
+    last_code: u8,
 }
 
 impl<'m> Operations<'m> {
-    /// Starts at the first octet of `list`.
-    pub fn of(list: &'m [u8]) -> Operations<'m> {
+    /// Starts at the first octet of `list`, as controllers of a profile send it.
+    pub fn of(list: &'m [u8], profile: &Profile) -> Operations<'m> {
         Operations {
             rest: Octets(list),
             end: FIRST + list.len(),
+            last_code: profile.last_code,
         }
     }
 
@@ -58,6 +62,9 @@ impl<'m> Operations<'m> {
     /// more for reads.
     #[inline(always)]
     fn body(&mut self, code: u8) -> Option<Operation<'m>> {
+        if code > self.last_code {
+            return None;
+        }
         Some(match code {
             1 => Operation::GetCapabilities,
             2 => Operation::Read(self.rest.number()?),

@@ -1,7 +1,5 @@
 //! Replies and notifications: the records they hold, their measure, and writing them.
 
-use crate::table::{COUNT, TABLE};
-
 /// The type of a reply.
 pub const COMPLETE: u8 = 0x02;
 /// The type of a notification.
@@ -20,21 +18,6 @@ const LONGEST_SHORT: usize = u8::MAX as usize;
 /// Identifier and length of an element.
 const HEAD: usize = 3;
 
-/// Element 70, the same in every reply that has it.
-static CAPABILITIES: [u8; HEAD + 2 * COUNT] = {
-    let mut element = [0; HEAD + 2 * COUNT];
-    element[0] = CAPABILITY;
-    element[2] = 2 * COUNT as u8;
-    let mut index = 0;
-    while index < COUNT {
-        let [high, low] = TABLE[index].name.to_be_bytes();
-        element[HEAD + 2 * index] = high;
-        element[HEAD + 2 * index + 1] = low;
-        index += 1;
-    }
-    element
-};
-
 /// Why a read or a set failed.
 #[derive(Clone, Copy, Debug, PartialEq, Eq)]
 pub enum Cause {
@@ -44,7 +27,8 @@ pub enum Cause {
     InvalidValue,
     /// 03: there is no value (RULES 11.4, 14.5).
     Unavailable,
-    /// 6F: not the controller's (RULES 11.7), or not served (RULES 11.26, 11.27).
+    /// 6F: not the controller's (RULES 11.7), or not served (RULES 11.26, 11.27); in profile 03 also a
+    /// value too long to be set, or none to be told.
     Unspecified,
 }
 
@@ -125,8 +109,8 @@ impl<'a> Record<'a> {
 pub enum Outcome<'a> {
     /// Nothing.
     Silent,
-    /// The list of names.
-    Capabilities,
+    /// The list of these names.
+    Capabilities(&'static [u8]),
     /// A record.
     Record(Record<'a>),
 }
@@ -134,7 +118,8 @@ pub enum Outcome<'a> {
 /// The measure of a reply: which elements it needs and how large its sections are.
 #[derive(Default)]
 pub struct Measure {
-    capabilities: bool,
+    /// The names that are listed, if they are asked for.
+    capabilities: Option<&'static [u8]>,
     counts: [usize; KINDS],
     octets: [usize; KINDS],
 }
@@ -144,7 +129,7 @@ impl Measure {
     pub fn add(&mut self, outcome: &Outcome) {
         match outcome {
             Outcome::Silent => {}
-            Outcome::Capabilities => self.capabilities = true,
+            Outcome::Capabilities(names) => self.capabilities = Some(names),
             Outcome::Record(record) => {
                 self.counts[record.kind as usize] += 1;
                 self.octets[record.kind as usize] += record.octets();
@@ -155,8 +140,8 @@ impl Measure {
     /// The whole reply's length, if it may be written into a room of `room` octets.
     pub fn reply_length(&self, room: usize) -> Option<usize> {
         let mut length = 1;
-        if self.capabilities {
-            length += CAPABILITIES.len();
+        if let Some(names) = self.capabilities {
+            length += HEAD + names.len();
         }
         if self.has_reads() {
             length += HEAD + self.status();
@@ -220,8 +205,9 @@ impl<'r> Writer<'r> {
     pub fn reply(room: &'r mut [u8], measure: &Measure) -> Writer<'r> {
         let mut writer = Writer::start(room);
         writer.put(&[COMPLETE]);
-        if measure.capabilities {
-            writer.put(&CAPABILITIES);
+        if let Some(names) = measure.capabilities {
+            writer.head(CAPABILITY, names.len());
+            writer.put(names);
         }
         if measure.has_reads() {
             writer.head(STATUS, measure.status());

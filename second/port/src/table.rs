@@ -16,7 +16,11 @@ pub const BODIES: usize = TIMER + 2;
 /// Place of GateEnabled in the table.
 pub const GATE_ENABLED: usize = 1;
 /// Places of the four values that make a block.
-pub const PARTS: [usize; 4] = [2, 3, 4, 5];
+pub const PARTS: [usize; 4] = [2, LIST_LENGTH, LIST, 5];
+/// Place of AdminControlListLength in the table.
+pub const LIST_LENGTH: usize = 3;
+/// Place of AdminControlList in the table.
+pub const LIST: usize = 4;
 /// Place of SupportedListMax in the table.
 pub const LIST_MAX: usize = 7;
 /// Place of the commit in the table; its room holds the running block.
@@ -114,25 +118,43 @@ const fn row(name: u16, (least, most): (usize, usize), set_by: SetBy, rule: Rule
 /// Marks an octet that is no listed name's low octet.
 const UNLISTED: u8 = u8::MAX;
 
-/// All names but the commit's have a high octet of 0; this gives their places by the low octet.
-static PLACES: [u8; 256] = {
-    let mut places = [UNLISTED; 256];
-    let mut index = 0;
-    while index < COMMIT {
-        assert!(TABLE[index].name < 256);
-        places[TABLE[index].name as usize] = index as u8;
-        index += 1;
-    }
-    places
-};
+/// The places of names in the table. All names but the commit's have a high octet of 0; this gives
+/// their places by the low octet.
+#[derive(Debug)]
+pub struct Places([u8; 256]);
 
-/// The place of `name` in the table.
+/// The places of all names.
+static PLACES: Places = Places::but(None);
+
+impl Places {
+    /// The places of all names but one, which is then none.
+    pub const fn but(unlisted: Option<usize>) -> Places {
+        let mut places = [UNLISTED; 256];
+        let mut index = 0;
+        while index < COMMIT {
+            assert!(TABLE[index].name < 256);
+            places[TABLE[index].name as usize] = index as u8;
+            index += 1;
+        }
+        if let Some(index) = unlisted {
+            places[TABLE[index].name as usize] = UNLISTED;
+        }
+        Places(places)
+    }
+
+    /// The place of `name`.
+    pub fn find(&self, name: u16) -> Option<usize> {
+        let place = match self.0.get(usize::from(name)) {
+            Some(&UNLISTED) => return None,
+            Some(&place) => usize::from(place),
+            None if name == TABLE[COMMIT].name => COMMIT,
+            None => return None,
+        };
+        Some(place)
+    }
+}
+
+/// The place of `name` in the table, whether it is listed by every profile or not.
 pub fn find(name: u16) -> Option<usize> {
-    let place = match PLACES.get(usize::from(name)) {
-        Some(&UNLISTED) => return None,
-        Some(&place) => usize::from(place),
-        None if name == TABLE[COMMIT].name => COMMIT,
-        None => return None,
-    };
-    Some(place)
+    PLACES.find(name)
 }

@@ -4,14 +4,14 @@ use std::io::{self, Read, Write};
 
 use port::{
     build_notification, gates, make_fresh, move_back, move_forward, take_expiry, take_local_value,
-    take_message, Answer, DelayUnits, Gates, Nanoseconds, FRESH,
+    take_message, Answer, DelayUnits, Gates, Nanoseconds, FRESH, RELEASE_18,
 };
 
 use crate::stream::{Lines, Piece, Pieces};
 
 /// Record codes.
 pub mod code {
-    /// Make the lent memory fresh.
+    /// Make the lent memory fresh: nothing, or a profile (1).
     pub const MAKE_FRESH: u8 = 0x00;
     /// Message: room length (2), message.
     pub const MESSAGE: u8 = 0x01;
@@ -88,7 +88,8 @@ impl<W: Write> Rig<W> {
     /// Carries out one instruction; false for an unknown code or a body of the wrong length.
     pub fn instruction(&mut self, code: u8, body: &[u8]) -> io::Result<bool> {
         let answer = match (code, body) {
-            (code::MAKE_FRESH, []) => make_fresh(&mut self.memory),
+            (code::MAKE_FRESH, []) => make_fresh(&mut self.memory, RELEASE_18.octet),
+            (code::MAKE_FRESH, [profile]) => make_fresh(&mut self.memory, *profile),
             (code::MESSAGE | code::MESSAGE_IN_FULL, [high, low, message @ ..]) => {
                 self.make_room([*high, *low]);
                 take_message(&mut self.memory, message, &mut self.room)

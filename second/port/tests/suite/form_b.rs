@@ -1,12 +1,13 @@
-//! Form B: an octet 02 ahead of the memory, which each call asks for and none but making fresh writes.
+//! Form B: the octet of a profile ahead of the memory, which each call asks for and none but making fresh
+//! writes.
 
 use crate::sound::{self, place, room};
 use crate::soundness::{full, memories, waiting};
 use kit::{command, hex, read, set, subscribe, Bench, Chance};
 
-/// Every octet that the first one may not be.
+/// Every octet that the first one may not be: those of no profile.
 fn others() -> impl Iterator<Item = u8> {
-    (0..=255).filter(|first| *first != 2)
+    (0..=255).filter(|first| ![2, 3].contains(first))
 }
 
 /// The numbers of all calls but making fresh, each on the memory as it is, and of gates.
@@ -84,14 +85,16 @@ fn each_call_refuses_the_old_form() {
     }
 }
 
-/// Whatever is lent, it is sound in form B exactly if it is in form B and sound behind the first octet.
+/// Whatever is lent, it is sound in form B exactly if it is in form B and sound behind the first octet by
+/// the profile which that octet tells.
 #[test]
 fn sound_in_form_b_is_sound_behind_the_first_octet() {
     let mut chance = Chance::new(23);
     let starts = memories();
     let mut seen = [0; 2];
     for _ in 0..20_000 {
-        let mut lent = [&[2], &starts[chance.below(3)][..]].concat();
+        let first = [2, 3][chance.below(2)];
+        let mut lent = [&[first], &starts[chance.below(3)][..]].concat();
         for _ in 0..chance.below(3) {
             let places = [117, lent.len()][chance.below(2)];
             let at = chance.below(places);
@@ -100,7 +103,7 @@ fn sound_in_form_b_is_sound_behind_the_first_octet() {
         if chance.below(8) == 0 {
             lent.resize(2_099 + chance.below(5), 0);
         }
-        let sound = lent.len() == 2_101 && lent[0] == 2 && sound::is_sound(&lent[1..]);
+        let sound = lent.len() == 2_101 && sound::is_sound_of(lent[0], &lent[1..]);
         let refused = numbers(&Bench::lend(&lent)).map(|number| number == 1);
         assert_eq!(refused, [!sound; 6]);
         seen[usize::from(sound)] += 1;
@@ -108,15 +111,21 @@ fn sound_in_form_b_is_sound_behind_the_first_octet() {
     assert!(seen.iter().all(|count| *count > 4_000), "{seen:?}");
 }
 
-/// Each call on memory that it changes: the first octet is 02 before and after it.
+/// Each call on memory that it changes: the first octet is that of the profile before and after it.
 #[test]
 fn the_first_octet_stays_in_every_call() {
-    let mut bench = Bench::fresh();
+    for profile in [2, 3] {
+        first_stays(profile);
+    }
+}
+
+fn first_stays(profile: u8) {
+    let mut bench = Bench::fresh_of(profile);
     let mut stays = |step: &mut dyn FnMut(&mut Bench) -> u8, number: u8| {
         let before = bench.lent();
         assert_eq!(step(&mut bench), number);
         let after = bench.lent();
-        assert_eq!([before[0], after[0]], [2, 2]);
+        assert_eq!([before[0], after[0]], [profile; 2]);
         assert_eq!(after.len(), 2_101);
         assert_ne!(before, after);
     };
@@ -131,7 +140,7 @@ fn the_first_octet_stays_in_every_call() {
     for number in [20, 20, 20, 20, 21] {
         stays(&mut |b| b.expire(), number);
     }
-    stays(&mut |b| b.make_fresh(), 0);
+    stays(&mut |b| b.make_fresh_of(profile), 0);
 }
 
 /// Making fresh takes any 2,101 octets, whatever the first is, and no other number of them.

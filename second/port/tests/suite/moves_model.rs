@@ -13,10 +13,14 @@ fn by_clauses(lent: &[u8], room: usize) -> [u8; 2] {
         () if room != 2_101 => 16,
         () => 0,
     };
-    let behind = lent.get(1..).unwrap_or_default();
+    let (profile, behind) = match lent {
+        [profile, behind @ ..] => (*profile, behind),
+        [] => (0, lent),
+    };
     let back = match () {
-        () if lent.first() != Some(&2) || !sound::is_sound(behind) => 1,
+        () if !sound::is_sound_of(profile, behind) => 1,
         () if room != 2_100 => 16,
+        () if profile == 3 => 19,
         () if in_flight(behind) => 17,
         () => 0,
     };
@@ -46,6 +50,7 @@ fn any_lent(starts: &[Vec<u8>], chance: &mut Chance) -> Vec<u8> {
     }
     match chance.below(10) {
         0..=3 => lent.insert(0, 2),
+        9 => lent.insert(0, 3),
         4 => lent.insert(0, chance.octet()),
         5 => lent.resize(2_098 + chance.below(5), 0),
         _ => {}
@@ -57,7 +62,7 @@ fn any_lent(starts: &[Vec<u8>], chance: &mut Chance) -> Vec<u8> {
 fn the_numbers_of_moves_are_those_of_the_clauses() {
     let mut chance = Chance::new(29);
     let starts = starts();
-    let mut seen = [[0; 18]; 2];
+    let mut seen = [[0; 20]; 2];
     for _ in 0..60_000 {
         let lent = any_lent(&starts, &mut chance);
         let room = [
@@ -81,10 +86,10 @@ fn the_numbers_of_moves_are_those_of_the_clauses() {
         seen[0][usize::from(forward.0)] += 1;
         seen[1][usize::from(back.0)] += 1;
     }
-    let often = |seen: &[usize; 18], number: usize| seen[number] > 500;
+    let often = |seen: &[usize; 20], number: usize| seen[number] > 500;
     assert!([0, 1, 16].iter().all(|n| often(&seen[0], *n)), "{seen:?}");
     assert!(
-        [0, 1, 16, 17].iter().all(|n| often(&seen[1], *n)),
+        [0, 1, 16, 17, 19].iter().all(|n| often(&seen[1], *n)),
         "{seen:?}"
     );
 }

@@ -208,7 +208,7 @@ type Call = fn(&mut [u8], &mut [u8]) -> port::Answer;
 #[test]
 fn every_other_call_has_position_0() {
     let calls: [Call; 6] = [
-        |memory, _| port::make_fresh(memory),
+        |memory, _| port::make_fresh(memory, 2),
         |memory, _| port::take_local_value(memory, 0x0003, &[1]),
         |memory, _| port::take_local_value(memory, 0x00A4, &[0, 1]),
         |memory, _| port::build_notification(memory, &mut []),

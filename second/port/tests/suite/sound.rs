@@ -43,7 +43,23 @@ pub fn place(name: u16) -> usize {
     ROWS.iter().position(|row| row.0 == name).unwrap()
 }
 
-/// Whether memory is sound.
+/// Whether memory with this first octet is sound in its profile. There are two.
+pub fn is_sound_of(profile: u8, memory: &[u8]) -> bool {
+    match profile {
+        2 => is_sound(memory),
+        3 => is_sound(memory) && keeps_release_16(memory),
+        _ => false,
+    }
+}
+
+/// At most 36 entries in the list and in the running block, and no flag but present on 000B.
+fn keeps_release_16(memory: &[u8]) -> bool {
+    let cell = |name: u16| &memory[6 * place(name)..6 * place(name) + 6];
+    let octets = |name: u16| number(&cell(name)[4..]);
+    octets(0x0006) <= 7 * 36 && octets(0x8001) <= 22 + 7 * 36 && cell(0x000B)[2] == 1
+}
+
+/// Whether memory is sound, in profile 02.
 pub fn is_sound(memory: &[u8]) -> bool {
     memory.len() == 2_100
         && (0..19).all(|place| entry_is_sound(memory, place))

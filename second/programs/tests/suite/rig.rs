@@ -252,7 +252,9 @@ fn delays_are_converted() {
 #[test]
 fn faulty_instructions_end_the_run() {
     let wrong_lengths = [
-        (0, 1),
+        (0, 2),
+        (0, 3),
+        (0, 2_101),
         (1, 0),
         (1, 1),
         (2, 0),

@@ -9,7 +9,7 @@ use super::pieces::{self, shorten};
 const UNKNOWN: [u8; 4] = [0x0D, 0x0E, 0x10, 0xFF];
 /// Codes with lengths that their bodies cannot have.
 const WRONG: [(u8, usize); 20] = [
-    (code::MAKE_FRESH, 1),
+    (code::MAKE_FRESH, 2),
     (code::MESSAGE, 1),
     (code::LOCAL_VALUE, 1),
     (code::BUILD, 1),

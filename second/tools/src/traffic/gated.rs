@@ -84,7 +84,7 @@ pub struct Running {
 impl Running {
     /// Those of the block in lent memory; none where nothing runs or memory is not sound.
     pub fn of(lent: &[u8]) -> Option<Running> {
-        let memory = sound_in_form_b(lent)?;
+        let (_, memory) = sound_in_form_b(lent)?;
         let Block([_, _, list, cycle_time]) = Block::split(value_in(memory, COMMIT)?)?;
         let mut edges = vec![0];
         for interval in intervals(list) {

@@ -10,7 +10,7 @@ use super::values;
 
 /// The places of what is in flight; none where memory is not sound.
 fn places(lent: &[u8]) -> Vec<usize> {
-    let Some(memory) = sound_in_form_b(lent) else {
+    let Some((_, memory)) = sound_in_form_b(lent) else {
         return Vec::new();
     };
     let in_flight = |place: &usize| memory[place * ENTRY + 2] & IN_FLIGHT != 0;
