@@ -245,11 +245,11 @@ fn what_the_clauses_give_is_found() {
         ("02 0003 03 0003 0002 01", Some(6)),
         ("03 0042 0003 060606 0A 0A", Some(11)),
     ] {
-        assert_eq!(position_by_clauses(&hex(list)), position, "{list}");
+        assert_eq!(position_by_clauses(2, &hex(list)), position, "{list}");
     }
     let list = hex("02 0003 09 0006 0002 0A0A 01 08 0003");
     let whole = ["02 0003", "09 0006 0002 0A0A", "01"].map(hex);
-    assert_eq!(operations_by_clauses(&list), whole);
+    assert_eq!(operations_by_clauses(2, &list), whole);
 }
 
 #[test]
@@ -258,7 +258,7 @@ fn damaged_commands_break_where_the_clauses_say() {
     let (mut rounds, mut far) = (0, 0);
     while rounds < 30_000 {
         let list = damaged(&mut chance);
-        let expected = position_by_clauses(&list);
+        let expected = position_by_clauses(2, &list);
         assert_eq!(by_port(&command(&list)), expected, "{list:02x?}");
         rounds += usize::from(expected.is_some());
         far += usize::from(expected.is_some_and(|position| position > FIRST));
@@ -281,7 +281,7 @@ fn a_long_command_breaks_where_the_clauses_say() {
             list[at] = chance.octet();
         }
         list.truncate(list.len() - chance.below(2) * chance.below(20));
-        let expected = position_by_clauses(&list);
+        let expected = position_by_clauses(2, &list);
         assert_eq!(by_port(&command(&list)), expected, "{list:02x?}");
         beyond += usize::from(expected.is_some_and(|position| position > 255));
     }

@@ -1,11 +1,12 @@
 //! Messages for traffic: commands of all kinds, most of them carried out, and faulty ones.
 
 use port::table::{SetBy, COMMIT, TABLE};
+use port::Profile;
 
 use super::dice::Dice;
 use super::not_served::{self, DELETE_ENTRY, SELECTIVE_READ};
 use super::operations::{Operations, BEFORE_LIST, COMMAND};
-use super::{schedules, values};
+use super::{forms, release_16, schedules, values};
 
 const NOTIFY_ACK: u8 = 0x04;
 const GATE_ENABLED: u16 = 0x0003;
@@ -19,21 +20,28 @@ const LONGEST: usize = 2_048;
 /// Longest list of operations in such a message.
 const LONGEST_LIST: usize = LONGEST - BEFORE_LIST;
 
+/// One message in so many is from a controller of the other release than the memory is for.
+const STRANGERS: usize = 4;
+
 /// Any message, fit for the sound memory that will take it.
 pub fn message(dice: &mut Dice, memory: &[u8]) -> Vec<u8> {
+    let by = match forms::profile(memory) {
+        profile if dice.one_in(STRANGERS) => forms::other(profile),
+        profile => profile,
+    };
     match dice.below(41) {
-        0..=13 => mixed(dice).command(),
-        14..=19 => schedules::operations(dice, memory).command(),
+        0..=13 => mixed(dice, by).command(),
+        14..=19 => schedules::operations(dice, memory, by).command(),
         20 => schedules::recommit(memory).command(),
-        21..=22 => off_values(dice).command(),
-        23..=25 => many(dice).command(),
-        26..=27 => longest(dice),
-        28..=29 => large_reply(dice).command(),
-        30..=31 => with_octets_after(dice),
-        32..=33 => wrong_length(dice),
-        34..=35 => malformed(dice),
-        36 => wrong_type(dice),
-        37..=39 => not_served::beside_others(dice).command(),
+        21..=22 => off_values(dice, by).command(),
+        23..=25 => many(dice, by).command(),
+        26..=27 => longest(dice, by),
+        28..=29 => large_reply(dice, by).command(),
+        30..=31 => with_octets_after(dice, by),
+        32..=33 => wrong_length(dice, by),
+        34..=35 => malformed(dice, by),
+        36 => wrong_type(dice, by),
+        37..=39 => own_beside_others(dice, by).command(),
         _ => acknowledgement(dice),
     }
 }
@@ -60,8 +68,8 @@ pub fn subscriptions(dice: &mut Dice) -> Vec<u8> {
     operations.command()
 }
 
-fn mixed(dice: &mut Dice) -> Operations {
-    let mut operations = Operations::default();
+fn mixed(dice: &mut Dice, by: &'static Profile) -> Operations {
+    let mut operations = Operations::by(by);
     for _ in 0..dice.between(1, 6) {
         add_any(dice, &mut operations);
     }
@@ -77,7 +85,7 @@ pub fn add_any(dice: &mut Dice, operations: &mut Operations) {
         5..=6 => operations.subscribe(name),
         7 => operations.unsubscribe(name),
         8 => operations.set(name, &[1]),
-        9..=11 => not_served::add(dice, operations),
+        9..=11 => add_own(dice, operations),
         _ => {
             let parameter = &TABLE[values::place(dice, SetBy::Controller)];
             let value = values::permitted(dice, parameter);
@@ -86,9 +94,35 @@ pub fn add_any(dice: &mut Dice, operations: &mut Operations) {
     }
 }
 
+/// Adds what controllers of the other release do not send, or are answered otherwise.
+fn add_own(dice: &mut Dice, operations: &mut Operations) {
+    match not_served::is_known_to(operations.by) {
+        true => not_served::add(dice, operations),
+        false => release_16::add(dice, operations),
+    }
+}
+
+/// Some of that beside operations with the same names.
+fn own_beside_others(dice: &mut Dice, by: &'static Profile) -> Operations {
+    let operations = Operations::by(by);
+    match not_served::is_known_to(by) {
+        true => not_served::beside_others(dice, operations),
+        false => release_16::beside_others(dice, operations),
+    }
+}
+
+/// A command of `length` octets, filled by a value of that.
+fn own_filled(dice: &mut Dice, by: &'static Profile, length: usize) -> Operations {
+    let operations = Operations::by(by);
+    match not_served::is_known_to(by) {
+        true => not_served::filled(dice, operations, length),
+        false => release_16::filled(dice, operations, length),
+    }
+}
+
 /// Sets of values one step off, among reads that show that nothing came of them.
-fn off_values(dice: &mut Dice) -> Operations {
-    let mut operations = Operations::default();
+fn off_values(dice: &mut Dice, by: &'static Profile) -> Operations {
+    let mut operations = Operations::by(by);
     for _ in 0..dice.between(1, 3) {
         let parameter = &TABLE[dice.below(TABLE.len())];
         operations.set(parameter.name, &values::off(dice, parameter));
@@ -98,12 +132,15 @@ fn off_values(dice: &mut Dice) -> Operations {
 }
 
 /// As many records of one kind as can be counted, or one more.
-fn many(dice: &mut Dice) -> Operations {
+fn many(dice: &mut Dice, by: &'static Profile) -> Operations {
     let count = dice.pick(&[255, 255, 256]);
     let (sets, name) = (dice.one_in(2), dice.pick(&[GATE_ENABLED, UNLISTED]));
     // What is not served is counted with what fails: none of it, some of it, or nothing else.
-    let one_in = dice.pick(&[usize::MAX, usize::MAX, 2, 1]);
-    let mut operations = Operations::default();
+    let one_in = match not_served::is_known_to(by) {
+        true => dice.pick(&[usize::MAX, usize::MAX, 2, 1]),
+        false => usize::MAX,
+    };
+    let mut operations = Operations::by(by);
     for _ in 0..count {
         match (sets, dice.one_in(one_in)) {
             (true, false) => operations.set(name, &[dice.below(2) as u8]),
@@ -115,13 +152,13 @@ fn many(dice: &mut Dice) -> Operations {
     match dice.below(4) {
         0..=1 => {}
         2 => operations.read(dice.pick(&[UNLISTED, GATE_ENABLED])),
-        _ => not_served::add(dice, &mut operations),
+        _ => add_own(dice, &mut operations),
     }
     operations
 }
 
 /// A message of 2,048 octets, or of more, filled with operations or with octets after them.
-fn longest(dice: &mut Dice) -> Vec<u8> {
+fn longest(dice: &mut Dice, by: &'static Profile) -> Vec<u8> {
     let length = match dice.below(7) {
         0..=2 => LONGEST,
         3..=5 => LONGEST + 1,
@@ -129,17 +166,17 @@ fn longest(dice: &mut Dice) -> Vec<u8> {
     };
     let mut message = match dice.below(4) {
         0 => vec![NOTIFY_ACK],
-        1 => mixed(dice).command(),
-        2 => not_served::filled(dice, length).command(),
-        _ => filled(dice).command(),
+        1 => mixed(dice, by).command(),
+        2 => own_filled(dice, by, length).command(),
+        _ => filled(dice, by).command(),
     };
     let fill = dice.octet();
     message.resize(length, fill);
     message
 }
 
-fn filled(dice: &mut Dice) -> Operations {
-    let mut operations = mixed(dice);
+fn filled(dice: &mut Dice, by: &'static Profile) -> Operations {
+    let mut operations = mixed(dice, by);
     while operations.length() + 3 <= LONGEST_LIST {
         let name = values::name(dice);
         match dice.below(8) {
@@ -155,8 +192,8 @@ fn filled(dice: &mut Dice) -> Operations {
 }
 
 /// A command whose reply has 4,095 to 4,098 octets, the elements 71 and 72 included.
-fn large_reply(dice: &mut Dice) -> Operations {
-    let mut operations = Operations::default();
+fn large_reply(dice: &mut Dice, by: &'static Profile) -> Operations {
+    let mut operations = Operations::by(by);
     let chassis_id = dice.octets(255);
     operations.set(CHASSIS_ID, &chassis_id);
     let elements = 1 + (3 + 2) + (3 + 2 + 3 + chassis_id.len());
@@ -172,6 +209,7 @@ fn large_reply(dice: &mut Dice) -> Operations {
     }
     for _ in 0..left / 3 {
         match dice.below(4) {
+            0..=1 if !not_served::is_known_to(by) => operations.set(UNLISTED, &[]),
             0 => operations.valued(SELECTIVE_READ, GATE_ENABLED, &[]),
             1 => operations.valued(DELETE_ENTRY, CHASSIS_ID, &[]),
             _ => operations.read(UNLISTED),
@@ -180,16 +218,16 @@ fn large_reply(dice: &mut Dice) -> Operations {
     operations
 }
 
-fn with_octets_after(dice: &mut Dice) -> Vec<u8> {
-    let mut message = mixed(dice).command();
+fn with_octets_after(dice: &mut Dice, by: &'static Profile) -> Vec<u8> {
+    let mut message = mixed(dice, by).command();
     let after = dice.between(1, 12);
     message.extend(dice.octets(after));
     message
 }
 
 /// L missing, 0, one past the end, far past it, or short of the last operation's end.
-fn wrong_length(dice: &mut Dice) -> Vec<u8> {
-    let operations = mixed(dice);
+fn wrong_length(dice: &mut Dice, by: &'static Profile) -> Vec<u8> {
+    let operations = mixed(dice, by);
     let right = operations.length();
     match dice.below(6) {
         0 => vec![COMMAND],
@@ -202,11 +240,11 @@ fn wrong_length(dice: &mut Dice) -> Vec<u8> {
 }
 
 /// An unknown code, or an operation cut short, alone or after others that may be too many.
-fn malformed(dice: &mut Dice) -> Vec<u8> {
+fn malformed(dice: &mut Dice, by: &'static Profile) -> Vec<u8> {
     let mut operations = match dice.below(5) {
-        0..=1 => Operations::default(),
-        2..=3 => mixed(dice),
-        _ => many(dice),
+        0..=1 => Operations::by(by),
+        2..=3 => mixed(dice, by),
+        _ => many(dice, by),
     };
     if dice.one_in(2) {
         // With a name after it, or a name and a value, only the code itself is wrong.
@@ -222,7 +260,7 @@ fn malformed(dice: &mut Dice) -> Vec<u8> {
     match dice.below(4) {
         0 => operations.read(parameter.name),
         1 => operations.subscribe(TABLE[COMMIT].name),
-        2 => not_served::add(dice, &mut operations),
+        2 => add_own(dice, &mut operations),
         _ => operations.set(parameter.name, &values::permitted(dice, parameter)),
     }
     let whole = operations.length();
@@ -230,8 +268,8 @@ fn malformed(dice: &mut Dice) -> Vec<u8> {
     operations.command()
 }
 
-fn wrong_type(dice: &mut Dice) -> Vec<u8> {
-    let mut message = mixed(dice).command();
+fn wrong_type(dice: &mut Dice, by: &'static Profile) -> Vec<u8> {
+    let mut message = mixed(dice, by).command();
     message[0] = dice.pick(&[0x00, 0x02, 0x03, 0x05, 0x06, 0xFF]);
     if dice.one_in(3) {
         message.clear();

@@ -1,7 +1,7 @@
 //! Schedules to be asked which gates are open, and the instants to ask about.
 
 use port::table::{COMMIT, PARTS, TABLE};
-use port::{sound_in_form_b, value_in, Block};
+use port::{sound_in_form_b, value_in, Block, Profile};
 
 use super::dice::Dice;
 use super::schedules::{cycle_nanoseconds, intervals, Values, BILLION};
@@ -24,10 +24,15 @@ const ENDS: [i64; 9] = [
     i64::MAX,
 ];
 
-/// A schedule that has form and fit.
-pub fn schedule(dice: &mut Dice) -> Values {
+/// A schedule that has form and fit, of as many entries at most as a profile permits.
+pub fn schedule(dice: &mut Dice, profile: &Profile) -> Values {
+    let count = dice.pick(&ENTRIES).min(profile.most_entries);
+    schedule_of(dice, count)
+}
+
+/// A schedule of so many entries that has form and fit.
+pub fn schedule_of(dice: &mut Dice, count: usize) -> Values {
     let base_time = values::permitted(dice, &TABLE[PARTS[0]]);
-    let count = dice.pick(&ENTRIES);
     let list = list(dice, count);
     let cycle = cycle(dice, &list);
     [base_time, (count as u32).to_be_bytes().into(), list, cycle]

@@ -4,7 +4,7 @@ use port::table::{SetBy, COUNT, ENTRY, TABLE};
 use port::{sound_in_form_b, IN_FLIGHT};
 
 use super::dice::Dice;
-use super::forms::held;
+use super::forms::{held, profile};
 use super::operations::Operations;
 use super::values;
 
@@ -34,7 +34,7 @@ pub fn value(dice: &mut Dice, lent: &[u8], place: usize) -> Vec<u8> {
 
 /// A command with what does something to a name in flight, and with what does nothing.
 pub fn command(dice: &mut Dice, lent: &[u8], place: usize) -> Vec<u8> {
-    let mut operations = Operations::default();
+    let mut operations = Operations::by(profile(lent));
     let name = TABLE[place].name;
     match dice.below(8) {
         0..=1 => operations.unsubscribe(name),

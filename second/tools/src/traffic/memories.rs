@@ -2,36 +2,46 @@
 //! What is given and what is lent is in form B, unless something else is said.
 
 use port::table::{
-    SetBy, BODIES, COMMIT, COUNT, ENTRY, EXPIRIES, GATE_ENABLED, LIST_MAX, PARTS, SIZE, TABLE,
-    TIMER,
+    SetBy, BODIES, COMMIT, COUNT, ENTRY, EXPIRIES, GATE_ENABLED, LIST, LIST_MAX, PARTS, SIZE,
+    TABLE, TIMER,
 };
-use port::{IN_FLIGHT, LENT, PENDING, PRESENT, SUBSCRIBED};
+use port::{Profile, IN_FLIGHT, LENT, LIST_ENTRY, PENDING, PRESENT, RELEASE_18, SUBSCRIBED};
 use programs::rig::MOST_LENT;
 
 use super::dice::Dice;
-use super::forms::{behind, form_b, held};
+use super::forms::{behind, form_b_of, held, other, profile};
 use super::{gated, schedules, values};
+
+/// One memory in so many that is lent with a change has the octet of the other profile as well.
+const EXCHANGED: usize = 6;
+/// Numbers of list entries around the most that profile 03 permits.
+const ENTRIES: [usize; 6] = [35, 36, 36, 37, 37, 64];
 
 /// Sound memory with some change, after which it mostly is not sound.
 pub fn changed(dice: &mut Dice, sound: &[u8]) -> Vec<u8> {
     let mut memory = behind(sound).to_vec();
-    match dice.below(20) {
+    let profile = match profile(sound) {
+        profile if dice.one_in(EXCHANGED) => other(profile),
+        profile => profile,
+    };
+    match dice.below(23) {
         0..=4 => change_octets(dice, sound, &mut memory),
         5..=6 => return in_no_form(dice, sound),
         7..=9 => change_value(dice, &mut memory),
         10 => remove_value(dice, &mut memory),
         11..=13 => change_flags(dice, &mut memory),
         14..=15 => change_block(dice, &mut memory),
-        _ => change_marks(dice, &mut memory),
+        16..=18 => reach_bounds(dice, &mut memory),
+        _ => change_marks(dice, profile, &mut memory),
     }
-    form_b(&memory)
+    form_b_of(profile, &memory)
 }
 
 /// Sound memory with other marks and another timer, which mostly may stand.
 pub fn marked(dice: &mut Dice, sound: &[u8]) -> Vec<u8> {
     let mut memory = behind(sound).to_vec();
-    change_marks(dice, &mut memory);
-    form_b(&memory)
+    change_marks(dice, profile(sound), &mut memory);
+    form_b_of(profile(sound), &memory)
 }
 
 /// Sound memory that is not in form B: with another first octet, without it, or of another length.
@@ -40,7 +50,7 @@ pub fn in_no_form(dice: &mut Dice, sound: &[u8]) -> Vec<u8> {
     match dice.below(5) {
         0..=1 => {
             let any = dice.octet();
-            lent[0] = dice.pick(&[0x00, 0x01, 0x03, 0xFF, any]);
+            lent[0] = dice.pick(&[0x00, 0x01, 0x04, 0xFF, any]);
         }
         2 => drop(lent.remove(0)),
         _ => change_length(dice, &mut lent),
@@ -51,15 +61,17 @@ pub fn in_no_form(dice: &mut Dice, sound: &[u8]) -> Vec<u8> {
 /// Sound memory in which a block runs that is not made of the values beside it.
 pub fn running(dice: &mut Dice, sound: &[u8]) -> Vec<u8> {
     let mut memory = behind(sound).to_vec();
+    let profile = profile(sound);
     for part in PARTS {
         if held(sound, part).is_none() || dice.one_in(2) {
-            let value = values::permitted(dice, &TABLE[part]);
+            let mut value = values::permitted(dice, &TABLE[part]);
+            value.truncate(profile.most_entries * LIST_ENTRY);
             install(&mut memory, part, Some(&value));
         }
     }
-    let block = gated::schedule(dice).concat();
+    let block = gated::schedule(dice, profile).concat();
     install(&mut memory, COMMIT, Some(&block));
-    form_b(&memory)
+    form_b_of(profile, &memory)
 }
 
 /// Sound memory with one octet changed, often one of the running block.
@@ -70,7 +82,7 @@ pub fn damaged(dice: &mut Dice, sound: &[u8]) -> Vec<u8> {
         _ => place(dice, sound),
     };
     change_octet(dice, &mut memory[at]);
-    form_b(&memory)
+    form_b_of(profile(sound), &memory)
 }
 
 /// Changes one to three octets.
@@ -169,7 +181,7 @@ fn change_flags(dice: &mut Dice, memory: &mut [u8]) {
 
 /// Lets a block run that may lack form, fit, or the presence of a value it was made of.
 fn change_block(dice: &mut Dice, memory: &mut [u8]) {
-    let mut parts = schedules::parts(dice);
+    let mut parts = schedules::parts(dice, RELEASE_18.most_entries);
     for (value, index) in parts.iter().zip(PARTS) {
         if !dice.one_in(20) {
             install(memory, index, Some(value));
@@ -185,9 +197,31 @@ fn change_block(dice: &mut Dice, memory: &mut [u8]) {
     }
 }
 
+/// What is sound in profile 02 and at a bound of profile 03, or past it: lists in their room or in a block
+/// that runs, and the mark that 000B may have.
+fn reach_bounds(dice: &mut Dice, memory: &mut [u8]) {
+    let count = dice.pick(&ENTRIES);
+    match dice.below(4) {
+        0 => memory[LIST_MAX * ENTRY + 2] = PRESENT | dice.pick(&[0, SUBSCRIBED, SUBSCRIBED]),
+        1 => install(memory, LIST, Some(&values::list(dice, count))),
+        at => {
+            let parts = gated::schedule_of(dice, count);
+            for (value, part) in parts.iter().zip(PARTS) {
+                let kept = if part == LIST && at == 2 {
+                    &[]
+                } else {
+                    &value[..]
+                };
+                install(memory, part, Some(kept));
+            }
+            install(memory, COMMIT, Some(&parts.concat()));
+        }
+    }
+}
+
 /// Sound marks on names set by the port, and a timer that may be out of its range. While idle what is
-/// in flight is not sound, and so it seldom is.
-fn change_marks(dice: &mut Dice, memory: &mut [u8]) {
+/// in flight is not sound, and so it seldom is, nor is a mark on a name that the profile does not list.
+fn change_marks(dice: &mut Dice, profile: &Profile, memory: &mut [u8]) {
     if dice.one_in(2) {
         memory[TIMER] = dice.pick(&[0, 1, 1, 1, 2]);
         memory[EXPIRIES] = dice.pick(&[0, 1, 2, 3, 4, 4, 5]);
@@ -204,6 +238,7 @@ fn change_marks(dice: &mut Dice, memory: &mut [u8]) {
                 let changes = dice.pick(&[0, PENDING, in_flight, PENDING | in_flight]);
                 dice.pick(&[0, SUBSCRIBED | changes, SUBSCRIBED | changes])
             }
+            SetBy::Nobody if !profile.lists(index) && !dice.one_in(8) => 0,
             SetBy::Controller | SetBy::Nobody => dice.pick(&[0, SUBSCRIBED]),
         };
         *flags = *flags & PRESENT | marks;

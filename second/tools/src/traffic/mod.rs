@@ -20,6 +20,7 @@ pub mod not_served;
 mod operations;
 mod pace;
 mod pieces;
+mod release_16;
 mod schedules;
 mod script;
 mod values;

@@ -5,21 +5,23 @@ use port::{move_back, move_forward, IN_FLIGHT, LENT};
 use programs::rig::{code, MOST_ROOM};
 
 use super::dice::Dice;
-use super::forms::{behind, form_b};
+use super::forms::{behind, form_b, form_b_of, profile};
 use super::memories;
 
 /// Memory to be moved, made of sound memory in form B: mostly of the old form, as an old bridge has it,
 /// or with a change; else of form B, often with marks or with a change, or of neither.
 pub fn lent(dice: &mut Dice, sound: &[u8]) -> Vec<u8> {
-    match dice.below(12) {
+    match dice.below(14) {
         0..=4 => old(dice, behind(sound)),
         5..=6 => {
-            let old = form_b(&old(dice, behind(sound)));
+            let old = form_b_of(profile(sound), &old(dice, behind(sound)));
             behind(&memories::changed(dice, &old)).to_vec()
         }
         7 => behind(sound).to_vec(),
         8..=9 => memories::marked(dice, sound),
         10 => memories::changed(dice, sound),
+        // What profile 03 takes profile 02 does, and there it can be moved back.
+        11..=12 => memories::marked(dice, &form_b(behind(sound))),
         _ => memories::in_no_form(dice, sound),
     }
 }

@@ -2,6 +2,7 @@
 //! served, and with a value that fills the message.
 
 use port::table::{find, TABLE};
+use port::Profile;
 
 use super::dice::Dice;
 use super::operations::{Operations, BEFORE_LIST, BEFORE_VALUE};
@@ -23,6 +24,11 @@ pub const CODES: [u8; 4] = [
     SELECTIVE_UNSUBSCRIBE,
     DELETE_ENTRY,
 ];
+
+/// Whether controllers of a profile have these codes.
+pub fn is_known_to(controller: &Profile) -> bool {
+    CODES.iter().all(|code| *code <= controller.last_code)
+}
 
 /// Lengths of values around the largest that one octet tells.
 const LENGTHS: [usize; 4] = [255, 256, 257, 300];
@@ -60,8 +66,7 @@ pub fn value(dice: &mut Dice, name: u16) -> Vec<u8> {
 }
 
 /// Some of them, each before or behind operations with the same name that are served.
-pub fn beside_others(dice: &mut Dice) -> Operations {
-    let mut operations = Operations::default();
+pub fn beside_others(dice: &mut Dice, mut operations: Operations) -> Operations {
     for _ in 0..dice.between(1, 3) {
         let name = name(dice);
         let codes = [dice.pick(&CODES), dice.pick(&CODES)];
@@ -81,8 +86,7 @@ pub fn beside_others(dice: &mut Dice) -> Operations {
 }
 
 /// A command of `length` octets, filled by the value of its last operation.
-pub fn filled(dice: &mut Dice, length: usize) -> Operations {
-    let mut operations = Operations::default();
+pub fn filled(dice: &mut Dice, mut operations: Operations, length: usize) -> Operations {
     for _ in 0..dice.below(3) {
         operations.read(values::name(dice));
     }

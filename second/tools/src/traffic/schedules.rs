@@ -1,7 +1,7 @@
 //! Whole schedules for traffic: cycles that fit or just do not, right and wrong sums.
 
 use port::table::{COMMIT, PARTS, TABLE};
-use port::{last_four, Block, LIST_ENTRY};
+use port::{last_four, Block, Profile, LIST_ENTRY, RELEASE_18};
 
 use super::dice::Dice;
 use super::forms::held;
@@ -14,9 +14,10 @@ pub const BILLION: u128 = 1_000_000_000;
 /// The values of 0004, 0005, 0006 and 0007.
 pub type Values = [Vec<u8>; PARTS.len()];
 
-/// A schedule that mostly has form and fit; otherwise it fails by the smallest step.
-pub fn parts(dice: &mut Dice) -> Values {
-    let count = values::entry_count(dice);
+/// A schedule of at most so many entries that mostly has form and fit; otherwise it fails by the smallest
+/// step.
+pub fn parts(dice: &mut Dice, most: usize) -> Values {
+    let count = values::entry_count(dice).min(most);
     let list = list(dice, count);
     let told = match dice.below(16) {
         0 => count + 1,
@@ -62,12 +63,14 @@ pub fn cycle_nanoseconds(cycle_time: &[u8]) -> Option<u128> {
     (u128::from(numerator) * BILLION).checked_div(denominator.into())
 }
 
-/// Operations that set a whole schedule, or part of it, and commit it.
-pub fn operations(dice: &mut Dice, lent: &[u8]) -> Operations {
-    let mut parts = parts(dice);
+/// Operations that set a whole schedule, or part of it, and commit it. It seldom has more entries than the
+/// controller's release permits.
+pub fn operations(dice: &mut Dice, lent: &[u8], by: &'static Profile) -> Operations {
+    let permitted = if dice.one_in(12) { &RELEASE_18 } else { by };
+    let mut parts = parts(dice, permitted.most_entries);
     let mut order = PARTS;
     order.swap(dice.below(4), dice.below(4));
-    let mut operations = Operations::default();
+    let mut operations = Operations::by(by);
     for part in order {
         let value = &mut parts[part - PARTS[0]];
         match held(lent, part) {

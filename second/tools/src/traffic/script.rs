@@ -1,19 +1,21 @@
 //! Scripts for `rig`: scenes of calls, played on a rig beside the script to know its state.
 
+mod lending;
+
 use std::io::{self, Sink, Write};
 
 use port::table::{SetBy, TABLE, TIMER};
-use port::{sound_in_form_b, take_message, FRESH, LENT};
+use port::{take_message, FRESH, RELEASE_16};
 use programs::rig::{code, Rig, MOST_ROOM};
 use programs::stream::Lines;
 
 use super::dice::Dice;
-use super::forms::behind;
+use super::forms::{behind, form_b_of, profile};
 use super::gated::{self, Running};
 use super::operations::Operations;
 use super::pace::Pace;
 use super::pieces::{self, is_cut};
-use super::{breaks, commands, faulty, in_flight, memories, moves, schedules, values};
+use super::{breaks, commands, faulty, in_flight, memories, schedules, values};
 
 /// A room that is large enough for every reply.
 const AMPLE: usize = 4_096;
@@ -27,6 +29,8 @@ const BREAKS: usize = 9;
 const GATES: usize = 10;
 /// One scene in so many of those that lend memory moves it between its forms.
 const MOVES: usize = 3;
+/// One scene in so many makes memory fresh for a profile, or lends it with the octet of the other one.
+const PROFILES: usize = 25;
 /// Nanoseconds around the edges of the delay conversion.
 const DELAYS: [u64; 8] = [
     0,
@@ -50,6 +54,9 @@ pub fn write<W: Write>(dice: &mut Dice, pace: Pace, count: u64, sink: &mut W) ->
         left: count,
         cut,
     };
+    if script.dice.one_in(2) {
+        script.instruction(code::MAKE_FRESH, &[RELEASE_16.octet])?;
+    }
     while script.left > 0 {
         script.scene()?;
     }
@@ -59,7 +66,7 @@ pub fn write<W: Write>(dice: &mut Dice, pace: Pace, count: u64, sink: &mut W) ->
 /// Any message, fit for the sound memory that will take it.
 fn drawn(dice: &mut Dice, memory: &[u8]) -> Vec<u8> {
     if dice.one_in(BREAKS) {
-        breaks::command(dice)
+        breaks::command(dice, profile(memory))
     } else {
         commands::message(dice, memory)
     }
@@ -80,6 +87,9 @@ impl<W: Write> Script<'_, W> {
         if self.dice.one_in(GATES) {
             return self.gates();
         }
+        if self.dice.one_in(PROFILES) {
+            return self.profiles();
+        }
         match self.dice.below(self.pace.scenes) {
             0..=12 => self.message(),
             13..=14 => self.local_value(),
@@ -89,7 +99,7 @@ impl<W: Write> Script<'_, W> {
             20 => self.delay(),
             21..=23 if self.dice.one_in(MOVES) => self.moves(),
             21..=23 => self.change_memory(),
-            _ if self.dice.one_in(4) => self.instruction(code::MAKE_FRESH, &[]),
+            _ if self.dice.one_in(4) => self.fresh(),
             _ => self.change_memory(),
         }
     }
@@ -102,7 +112,8 @@ impl<W: Write> Script<'_, W> {
         }
         match self.dice.below(12) {
             0..=2 => {
-                let message = drawn(self.dice, &FRESH);
+                let fresh = form_b_of(profile(&self.rig.memory), behind(&FRESH));
+                let message = drawn(self.dice, &fresh);
                 self.send(&message)
             }
             3..=4 => self.local_value(),
@@ -249,8 +260,9 @@ impl<W: Write> Script<'_, W> {
         match self.dice.below(8) {
             0..=3 => {}
             4..=6 => {
-                let mut operations = Operations::default();
-                schedules::commit_all(&gated::schedule(self.dice), &mut operations);
+                let profile = profile(&self.rig.memory);
+                let mut operations = Operations::by(profile);
+                schedules::commit_all(&gated::schedule(self.dice, profile), &mut operations);
                 return self.send(&operations.command());
             }
             _ => {
@@ -286,64 +298,6 @@ impl<W: Write> Script<'_, W> {
             _ => any,
         };
         self.instruction(code::DELAY, &nanoseconds.to_be_bytes())
-    }
-
-    /// Lends other memory, calls on it, and lends sound memory again.
-    fn change_memory(&mut self) -> io::Result<()> {
-        let sound = self.rig.memory.clone();
-        let before = Running::of(&sound);
-        let changed = memories::changed(self.dice, &sound);
-        self.instruction(code::LEND, &changed)?;
-        for _ in 0..self.dice.between(1, 3) {
-            self.call(before.as_ref())?;
-        }
-        if self.rig.memory.len() == LENT && self.dice.one_in(4) {
-            self.instruction(code::MAKE_FRESH, &[])
-        } else {
-            if self.dice.one_in(4) {
-                self.instruction(code::MAKE_FRESH, &[])?;
-                self.ask(before.as_ref())?;
-            }
-            self.instruction(code::LEND, &sound)
-        }
-    }
-
-    /// Memory moved between its forms, often there and back, with calls on what a move wrote.
-    fn moves(&mut self) -> io::Result<()> {
-        let sound = self.rig.memory.clone();
-        let before = Running::of(&sound);
-        if !self.dice.one_in(4) {
-            let lent = moves::lent(self.dice, &sound);
-            self.instruction(code::LEND, &lent)?;
-        }
-        for _ in 0..self.dice.between(1, 3) {
-            if self.dice.one_in(3) {
-                self.call(before.as_ref())?;
-            }
-            let Some(written) = self.make_move()? else {
-                continue;
-            };
-            if !self.dice.one_in(3) {
-                self.instruction(code::LEND, &written)?;
-                self.call(before.as_ref())?;
-            }
-        }
-        if self.rig.memory.len() == LENT && self.dice.one_in(3) {
-            return self.instruction(code::MAKE_FRESH, &[]);
-        }
-        match sound_in_form_b(&self.rig.memory) {
-            Some(_) => Ok(()),
-            None => self.instruction(code::LEND, &sound),
-        }
-    }
-
-    /// A move of what is lent, and what it wrote.
-    fn make_move(&mut self) -> io::Result<Option<Vec<u8>>> {
-        let code = moves::code(self.dice, &self.rig.memory);
-        let room = moves::room(self.dice, code);
-        self.instruction(code, &(room as u16).to_be_bytes())?;
-        self.show()?;
-        Ok(moves::written(code, &self.rig.memory, room))
     }
 
     /// Shows memory and room, as often as the pace has it.

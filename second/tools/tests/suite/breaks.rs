@@ -6,7 +6,7 @@ use std::sync::LazyLock;
 use kit::{command, position_by_clauses};
 use tools::traffic::{stream, Kind};
 
-use crate::traffic::{pieces, printed};
+use crate::traffic::{pieces, play_all, printed, profile, profiles};
 
 /// What of an operation is unknown or lacking.
 #[derive(Clone, Copy, Debug, PartialEq, Eq, PartialOrd, Ord)]
@@ -54,12 +54,13 @@ pub struct Break {
     pub place: Place,
 }
 
-/// The break of a message; none if it does not break.
-pub fn break_of(message: &[u8]) -> Option<Break> {
+/// The break of a message in a profile; none if it does not break.
+pub fn break_of(profile: u8, message: &[u8]) -> Option<Break> {
     let list = list(message)?;
-    let position = position_by_clauses(list)?;
+    let position = position_by_clauses(profile, list)?;
     let sort = match list[position - 3..] {
         [0 | 10..=255, ..] => Sort::Code,
+        [6..=9, ..] if profile == 3 => Sort::Code,
         [_] => Sort::Name,
         [_, _] => Sort::HalfName,
         [_, _, _] => Sort::Length,
@@ -90,6 +91,7 @@ fn whole(octets: &[u8]) -> usize {
 
 /// A message of a script, the code of its instruction, and how it breaks.
 struct Sent {
+    profile: u8,
     code: u8,
     message: Vec<u8>,
     broken: Option<Break>,
@@ -100,14 +102,21 @@ static SENT: LazyLock<[(Kind, Vec<Sent>); 2]> =
     LazyLock::new(|| [Kind::Script, Kind::Calls].map(|kind| (kind, sent(kind))));
 
 fn sent(kind: Kind) -> Vec<Sent> {
-    let scripts = (1..=600).flat_map(|seed| pieces(&stream(kind, seed, 200), 3));
-    let messages = scripts.filter(|(head, body)| [1, 9].contains(&head[0]) && body.len() >= 2);
-    let sent = messages.map(|(head, body)| Sent {
-        code: head[0],
-        message: body[2..].to_vec(),
-        broken: break_of(&body[2..]),
-    });
-    sent.collect()
+    let mut sent = Vec::new();
+    for seed in 1..=600 {
+        play_all(&stream(kind, seed, 200), |bench, code, body| {
+            if let (1 | 9, [_, _, message @ ..]) = (code, body) {
+                let profile = profile(bench);
+                sent.push(Sent {
+                    profile,
+                    code,
+                    message: message.to_vec(),
+                    broken: break_of(profile, message),
+                });
+            }
+        });
+    }
+    sent
 }
 
 /// The messages that break, and how.
@@ -147,7 +156,7 @@ fn some_commands_break_twice() {
             let list = list(&sent.message).unwrap();
             // Behind an unknown code and the name that is beside it.
             let behind = list.get(position..).unwrap_or(&[]);
-            let again = position_by_clauses(behind).is_some();
+            let again = position_by_clauses(sent.profile, behind).is_some();
             twice += usize::from(sort == Sort::Code && again);
             // A value that is told to have more octets than can follow, and some do.
             let told = whole(&sent.message[position..]);
@@ -166,7 +175,8 @@ fn some_octets_behind_the_list_would_complete_an_operation() {
         let mut completed: BTreeMap<Sort, usize> = BTreeMap::new();
         for (sent, how) in broken(sent) {
             let end = how.position + whole(&sent.message[how.position..]);
-            if sent.message.get(3..end).map(position_by_clauses) == Some(None) {
+            let longer = sent.message.get(3..end);
+            if longer.map(|list| position_by_clauses(sent.profile, list)) == Some(None) {
                 *completed.entry(how.sort).or_default() += 1;
             }
         }
@@ -213,7 +223,8 @@ fn messages_are_sent_in_full_as_often_as_in_short() {
 fn scripts_in_full_differ_by_their_positions_alone() {
     let (mut in_full, mut breaks) = (0, 0);
     for (seed, kind) in (1..=40).flat_map(|seed| [(seed, Kind::Script), (seed, Kind::Calls)]) {
-        let mut instructions = pieces(&stream(kind, seed, 200), 3);
+        let stream = stream(kind, seed, 200);
+        let (mut instructions, profiles) = (pieces(&stream, 3), profiles(&stream));
         // The last one may be faulty.
         instructions.truncate(199);
         let [full, short] = [9, 1].map(|code| {
@@ -224,13 +235,14 @@ fn scripts_in_full_differ_by_their_positions_alone() {
             printed(&joined.collect::<Vec<_>>().concat())
         });
         assert_eq!((full.len(), short.len()), (199, 199));
-        for (((head, body), full), short) in instructions.iter().zip(&full).zip(&short) {
+        let lines = full.iter().zip(&short).zip(profiles);
+        for ((head, body), ((full, short), profile)) in instructions.iter().zip(lines) {
             if head[0] != 9 {
                 assert_eq!(full, short, "seed {seed}");
                 continue;
             }
             let (number, written) = short.split_once(' ').unwrap();
-            let broken = break_of(&body[2..]).filter(|_| number == "6");
+            let broken = break_of(profile, &body[2..]).filter(|_| number == "6");
             let position = broken.map_or(0, |how| how.position);
             assert_eq!(*full, format!("{number} {position} {written}"));
             assert_eq!(number == "6", broken.is_some(), "seed {seed}");
@@ -245,7 +257,7 @@ fn scripts_in_full_differ_by_their_positions_alone() {
 fn sorts_and_places_are_told_apart() {
     use {Place::*, Sort::*};
     let at = |operations: &[u8], behind: &[u8]| {
-        let how = break_of(&[&command(operations), behind].concat())?;
+        let how = break_of(2, &[&command(operations), behind].concat())?;
         Some((how.sort, how.place))
     };
     assert_eq!(at(&[1, 2, 0, 3], &[10]), None);
@@ -263,5 +275,10 @@ fn sorts_and_places_are_told_apart() {
     assert_eq!(at(&[1, 7, 0, 3], &[0, 0]), Some((Length, Last)));
     assert_eq!(at(&[8, 0, 3, 0], &[0]), Some((HalfLength, First)));
     assert_eq!(at(&[1, 9, 0, 3, 0, 2, 1], &[1, 1]), Some((Value, Middle)));
-    assert_eq!(break_of(&[1, 0, 2, 10]), None);
+    assert_eq!(break_of(2, &[1, 0, 2, 10]), None);
+    // What is not served in one profile is unknown in the other.
+    let served = command(&[1, 6, 0, 3, 0, 0]);
+    assert_eq!(break_of(2, &served), None);
+    let how = break_of(3, &served).unwrap();
+    assert_eq!((how.position, how.sort, how.place), (4, Code, Last));
 }

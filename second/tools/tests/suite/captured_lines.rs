@@ -46,7 +46,7 @@ static SEEN: LazyLock<Seen> = LazyLock::new(|| {
 
 #[test]
 fn captures_have_every_form_and_shape() {
-    assert_often(&SEEN.named, FORMS, 20);
+    assert_often(&SEEN.named, FORMS, 15);
     assert_often(&SEEN.named, SHAPES, 10);
     let long = [
         "very long octets",

@@ -45,7 +45,7 @@ fn called(before: &Bench, code: u8, body: &[u8]) -> Option<(u8, Bench)> {
     let mut bench = before.clone();
     let first = |body: &[u8]| u16::from_be_bytes([body[0], body[1]]);
     let number = match (code, body.len()) {
-        (0, 0) => bench.make_fresh(),
+        (0, 0..=1) => bench.make_fresh_of(body.first().copied().unwrap_or(2)),
         (1 | 9, 2..) => bench.send_into(&body[2..], first(body).into()).0,
         (2, 2..) => bench.local(first(body), &body[2..]),
         (3, 2) => bench.build_into(first(body).into()).0,
@@ -55,13 +55,13 @@ fn called(before: &Bench, code: u8, body: &[u8]) -> Option<(u8, Bench)> {
     Some((number, bench))
 }
 
-/// Whether memory is sound once the flags of each place are others.
-fn mended(memory: &[u8], mend: impl Fn(usize, u8) -> u8) -> bool {
+/// Memory in which the flags of each place are others.
+fn mended(memory: &[u8], mend: &dyn Fn(usize, u8) -> u8) -> Vec<u8> {
     let mut memory = memory.to_vec();
     for place in 0..19 {
         memory[6 * place + 2] = mend(place, memory[6 * place + 2]);
     }
-    Bench::of(memory).is_sound()
+    memory
 }
 
 impl Seen {
@@ -199,24 +199,35 @@ impl Seen {
     fn lent(&mut self, lent: &[u8]) {
         (self.turned_back, self.kept) = Default::default();
         self.last = None;
-        let Some((2, memory)) = lent.split_first().filter(|_| lent.len() == 2_101) else {
+        let [profile @ (2 | 3), memory @ ..] = lent else {
             return;
         };
+        if lent.len() != 2_101 {
+            return;
+        }
+        let is_sound = |memory: Vec<u8>| Bench::of(memory).with_profile(*profile).is_sound();
+        let mended = |mend: &dyn Fn(usize, u8) -> u8| is_sound(mended(memory, mend));
         let mut cells = memory[..114].iter().skip(2).step_by(6);
         let out = cells.any(|flags| flags & IN_FLIGHT != 0);
-        let sound = Bench::of(memory.to_vec()).is_sound();
+        let sound = is_sound(memory.to_vec());
         self.count("lent with something in flight, sound", out && sound);
         if sound {
             return;
         }
         let mut waiting = memory.to_vec();
         waiting[114] = 1;
-        let idle = out && memory[114] == 0 && Bench::of(waiting).is_sound();
+        let idle = out && memory[114] == 0 && is_sound(waiting);
         self.count("lent in flight while idle", idle);
         let of = |setter: SetBy| {
-            mended(memory, |place, flags| {
+            // Nor is a name that is not listed subscribed.
+            let right = if setter == SetBy::Nobody && *profile == 3 {
+                1
+            } else {
+                3
+            };
+            mended(&|place, flags| {
                 let wrong = TABLE[place].set_by == setter && flags & IN_FLIGHT != 0;
-                flags & if wrong { 3 } else { !0 }
+                flags & if wrong { right } else { !0 }
             })
         };
         self.count(
@@ -224,9 +235,9 @@ impl Seen {
             of(SetBy::Controller),
         );
         self.count("lent in flight of nobody's name", of(SetBy::Nobody));
-        let subscribed = mended(memory, |_, flags| flags | (flags & IN_FLIGHT) >> 2);
+        let subscribed = mended(&|_, flags| flags | (flags & IN_FLIGHT) >> 2);
         self.count("lent in flight, not subscribed", subscribed);
-        let low = mended(memory, |_, flags| flags & 15);
+        let low = mended(&|_, flags| flags & 15);
         self.count("lent with flags over 15", low);
     }
 
@@ -247,7 +258,7 @@ const SHARES: [(&str, usize); 10] = [
     ("unsubscribed in flight", 200),
     ("unsubscribed in flight and subscribed again", 600),
     ("acknowledged with pending beside it", 300),
-    ("told again behind an acknowledgement", 500),
+    ("told again behind an acknowledgement", 600),
     ("given up with pending beside it", 200),
     ("told again behind the fifth expiry", 200),
     ("shown with something in flight", 15),

@@ -26,8 +26,8 @@ struct Seen {
 }
 
 /// Memory of 2,100 octets in words: whether it is sound, waits, and has something in flight.
-fn state(memory: &[u8]) -> &'static str {
-    let sound = Bench::of(memory.to_vec()).is_sound();
+fn state(profile: u8, memory: &[u8]) -> &'static str {
+    let sound = Bench::of(memory.to_vec()).with_profile(profile).is_sound();
     let out = (0..19).any(|place| memory[6 * place + 2] & 8 != 0);
     match (sound, memory[114], out) {
         (false, 0, true) => "not sound, in flight while idle",
@@ -41,9 +41,10 @@ fn state(memory: &[u8]) -> &'static str {
 /// What is lent in words: its form and its state.
 fn lent(octets: &[u8]) -> String {
     match (octets.len(), octets.first()) {
-        (2_100, _) if octets[0] != 2 => format!("old form, {}", state(octets)),
-        (2_101, Some(2)) => format!("form B, {}", state(&octets[1..])),
-        (2_101, Some(first @ (0 | 1 | 3 | 0xFF))) => format!("first octet {first:02x}"),
+        (2_100, _) if ![2, 3].contains(&octets[0]) => format!("old form, {}", state(2, octets)),
+        (2_101, Some(2)) => format!("form B, {}", state(2, &octets[1..])),
+        (2_101, Some(3)) => format!("profile 03, {}", state(3, &octets[1..])),
+        (2_101, Some(first @ (0 | 1 | 4 | 0xFF))) => format!("first octet {first:02x}"),
         (2_101, _) => "first octet of another kind".to_string(),
         (length @ (2_099 | 2_100 | 2_102), _) => format!("{length} octets"),
         _ => "another length".to_string(),
@@ -164,7 +165,12 @@ const CASES: &[&str] = &[
     "back of form B, not sound, in flight while idle",
     "back of first octet 00",
     "back of first octet 01",
-    "back of first octet 03",
+    "back of first octet 04",
+    "forward of profile 03, idle",
+    "back of profile 03, idle",
+    "back of profile 03, waiting",
+    "back of profile 03, in flight",
+    "back of profile 03, not sound",
     "back of first octet ff",
     "forward of 2099 octets",
     "back of 2102 octets",
@@ -177,6 +183,7 @@ const CASES: &[&str] = &[
     "back, right room, number 0",
     "back, right room, number 1",
     "back, right room, number 17",
+    "back, right room, number 19",
     "back, one too short, number 16",
     "back, one too long, number 16",
     "back, no room, number 16",

@@ -9,7 +9,7 @@ use port::table::find;
 use tools::traffic::{stream, Kind};
 
 use crate::breaks::{break_of, list, Sort, SORTS};
-use crate::traffic::{pieces, play};
+use crate::traffic::{pieces, play, profile};
 
 /// The codes of what is not served.
 const CODES: [u8; 4] = [6, 7, 8, 9];
@@ -35,18 +35,25 @@ struct Seen {
     broken: BTreeMap<(u8, Sort), usize>,
     /// Commands carried out that are one such operation, by its code.
     alone: BTreeMap<u8, usize>,
+    /// Commands that break in profile 03 at one of the codes: they are unknown there.
+    unknown: BTreeMap<u8, usize>,
 }
 
 impl Seen {
-    fn take(&mut self, number: u8, reply: &[u8], message: &[u8]) {
-        if let Some(how) = break_of(message).filter(|_| number == 6) {
+    fn take(&mut self, profile: u8, (number, reply): (u8, Vec<u8>), message: &[u8]) {
+        if let Some(how) = break_of(profile, message).filter(|_| number == 6) {
             let code = message[how.position];
+            if profile == 3 && CODES.contains(&code) {
+                assert_eq!(how.sort, Sort::Code);
+                *self.unknown.entry(code).or_default() += 1;
+                return;
+            }
             *self.broken.entry((code, how.sort)).or_default() += 1;
         }
         let Some(list) = list(message).filter(|_| number == 0) else {
             return;
         };
-        let operations = operations_by_clauses(list);
+        let operations = operations_by_clauses(profile, list);
         for operation in &operations {
             let [code @ 6..=9, high, low, _, _, value @ ..] = operation else {
                 continue;
@@ -67,16 +74,16 @@ impl Seen {
 
     fn take_script(&mut self, script: &[u8]) {
         play(script, |before, message, room| {
-            let (number, reply) = before.clone().send_into(message, room);
-            self.take(number, &reply, message);
+            let answer = before.clone().send_into(message, room);
+            self.take(profile(before), answer, message);
         });
     }
 
     fn take_frames(&mut self, frames: &[u8]) {
         let mut bench = Bench::fresh();
         for (_, message) in pieces(frames, 2) {
-            let (number, reply) = bench.send(&message);
-            self.take(number, &reply, &message);
+            let answer = bench.send(&message);
+            self.take(2, answer, &message);
         }
     }
 
@@ -101,6 +108,10 @@ impl Seen {
         }
         let known = CODES.iter().map(|code| (*code, Sort::Code));
         assert!(known.into_iter().all(|how| !self.broken.contains_key(&how)));
+        for code in CODES {
+            let count = self.unknown.get(&code).copied().unwrap_or(0);
+            assert!(count >= least, "{code} in profile 03: {count}");
+        }
     }
 }
 

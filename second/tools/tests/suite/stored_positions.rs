@@ -34,7 +34,7 @@ fn the_stored_positions_are_those_of_the_clauses() {
         *seen.entry(number).or_default() += 1;
         if [0, 6, 7].contains(&number) && message[0] == 1 {
             let end = 3 + usize::from(message[1]) * 256 + usize::from(message[2]);
-            let expected = position_by_clauses(&message[3..end]);
+            let expected = position_by_clauses(instruction.profile, &message[3..end]);
             assert_eq!(number == 6, expected.is_some(), "{message:02x?}");
             assert_eq!(position, expected.unwrap_or(0), "{message:02x?}");
         } else {
@@ -52,7 +52,7 @@ fn the_stored_positions_are_those_of_the_clauses() {
 fn the_stored_commands_break_in_each_way_at_each_place() {
     let mut seen = BTreeMap::new();
     for (instruction, _) in positions() {
-        if let Some(how) = break_of(message(&instruction)) {
+        if let Some(how) = break_of(instruction.profile, message(&instruction)) {
             *seen.entry((how.sort, how.place)).or_insert(0) += 1;
         }
     }

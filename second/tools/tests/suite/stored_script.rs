@@ -10,7 +10,7 @@ use tools::traffic::{stream, Kind};
 
 use crate::process::RIG;
 use crate::stored::assert_prints;
-use crate::traffic::{pieces, play};
+use crate::traffic::{pieces, play, profiles};
 
 /// What the part by chance follows from, and its instructions.
 const SEED: u64 = 15_025;
@@ -23,6 +23,8 @@ fn edges() -> Vec<u8> {
 
 /// An instruction and the line that it is answered with.
 pub struct Answered {
+    /// The profile of the memory that it finds.
+    pub profile: u8,
     pub code: u8,
     pub body: Vec<u8>,
     pub line: String,
@@ -68,15 +70,17 @@ pub fn script() -> Vec<Answered> {
     assert_eq!(lines.len(), edges + RECORDS as usize);
     let (last, lines) = lines.split_last().unwrap();
     assert_eq!(last, "cut");
-    let instructions = pieces(&stored("rig", "stdin"), 3);
+    let stdin = stored("rig", "stdin");
+    let instructions = pieces(&stdin, 3);
     assert!(
         instructions.len() >= lines.len(),
         "{} instructions",
         instructions.len()
     );
-    let answered = instructions.into_iter().zip(lines);
+    let answered = instructions.into_iter().zip(profiles(&stdin)).zip(lines);
     answered
-        .map(|((head, body), line)| Answered {
+        .map(|(((head, body), profile), line)| Answered {
+            profile,
             code: head[0],
             body,
             line: line.clone(),
@@ -101,7 +105,7 @@ fn the_second_rig_prints_the_stored_lines() {
 fn the_stored_script_has_the_edges_and_follows_from_its_seed() {
     let script = stored("rig", "stdin");
     assert!(script == [edges(), stream(Kind::Calls, SEED, RECORDS)].concat());
-    assert!(script.len() < 1_350_000);
+    assert!(script.len() < 1_480_000);
     assert!(stored("rig", "stdout").len() < 3_400_000);
 }
 
@@ -159,7 +163,7 @@ fn the_stored_lines_have_every_number_of_every_call() {
         );
     }
     let possible: [(u8, &[u8]); 9] = [
-        (code::MAKE_FRESH, &[0, 1]),
+        (code::MAKE_FRESH, &[0, 1, 18]),
         (code::MESSAGE, &[0, 1, 2, 3, 4, 5, 6, 7, 8]),
         (code::LOCAL_VALUE, &[0, 1, 12]),
         (code::BUILD, &[0, 1, 9, 10, 11]),
@@ -167,7 +171,7 @@ fn the_stored_lines_have_every_number_of_every_call() {
         (code::MESSAGE_IN_FULL, &[0, 1, 2, 3, 4, 5, 6, 7, 8]),
         (code::GATES, &[0, 1, 15]),
         (code::FORWARD, &[0, 1, 16]),
-        (code::BACK, &[0, 1, 16, 17]),
+        (code::BACK, &[0, 1, 16, 17, 19]),
     ];
     for (code, possible) in possible {
         let seen: Vec<u8> = numbers[&code].keys().copied().collect();
@@ -186,7 +190,8 @@ struct Notified {
     /// Names made absent by a local value since memory was lent or made fresh.
     made_absent: BTreeSet<u16>,
     values: usize,
-    absent: usize,
+    /// In profile 02 and in profile 03.
+    absent: [usize; 2],
     acknowledged: [usize; 5],
     given_up: usize,
 }
@@ -205,7 +210,9 @@ impl Notified {
                     self.made_absent.insert(name);
                 }
             }
-            code::BUILD if instruction.number() == 0 => self.built(&instruction.written()),
+            code::BUILD if instruction.number() == 0 => {
+                self.built(instruction.profile, &instruction.written())
+            }
             code::EXPIRY => self.expired(instruction.number()),
             _ if instruction.is_message() && instruction.written() == [5] => {
                 if let Some(expiries) = self.expiries.take() {
@@ -217,14 +224,20 @@ impl Notified {
     }
 
     /// A notification's contents are those of element 71.
-    fn built(&mut self, notification: &[u8]) {
+    fn built(&mut self, profile: u8, notification: &[u8]) {
         assert_eq!(notification[0], 3);
         let report = Reply::parse(&[&[2, 0x71], &notification[1..]].concat());
         self.expiries = Some(0);
         self.values += report.values.len();
         for (name, cause) in report.read_errors {
-            assert_eq!(cause, 3, "name {name:04x}");
-            self.absent += usize::from(self.made_absent.contains(&name));
+            let [absent, other] = [3, 0x6F].map(|told| cause == told);
+            assert!(
+                absent != other && other == (profile == 3),
+                "name {name:04x}"
+            );
+            if self.made_absent.contains(&name) {
+                self.absent[usize::from(other)] += 1;
+            }
         }
     }
 
@@ -246,7 +259,8 @@ fn the_stored_lines_have_notifications_acknowledged_and_given_up() {
     }
     assert_seen(&[
         ("values reported", seen.values, 100),
-        ("made absent, and reported with cause 03", seen.absent, 5),
+        ("made absent, and reported with cause 03", seen.absent[0], 5),
+        ("made absent, and reported with cause 6F", seen.absent[1], 5),
         ("given up at the fifth expiry", seen.given_up, 20),
         ("acknowledged at once", seen.acknowledged[0], 5),
         ("acknowledged after one expiry", seen.acknowledged[1], 3),

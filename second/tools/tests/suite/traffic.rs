@@ -54,7 +54,7 @@ fn the_edges_are_whole_and_the_same_for_each_seed() {
     for line in &lines {
         *numbers.entry(line.split(' ').next().unwrap()).or_default() += 1;
     }
-    for number in (0..=12).chain([15, 16, 17, 20, 21]) {
+    for number in (0..=12).chain(15..=21) {
         let seen = numbers.get(&*number.to_string()).copied();
         assert!(seen.is_some(), "number {number}");
     }
@@ -76,7 +76,7 @@ fn scripts_reach_every_number() {
         }
     }
     let numbers: Vec<u8> = reached.keys().copied().collect();
-    let wanted: Vec<u8> = (0..=12).chain([15, 16, 17, 20, 21]).collect();
+    let wanted: Vec<u8> = (0..=12).chain(15..=21).collect();
     assert_eq!(numbers, wanted);
     assert!(reached.values().all(|count| *count >= 40), "{reached:?}");
     assert!((20..90).contains(&cut), "{cut} scripts end cut");
@@ -182,7 +182,7 @@ fn frames_have_every_kind_of_message() {
         "{} carried out",
         seen.carried_out
     );
-    assert!(seen.commits > 1_000, "{} commits", seen.commits);
+    assert!(seen.commits > 800, "{} commits", seen.commits);
     assert!(
         seen.refused_commits > 1_000,
         "{} refused commits",
@@ -276,7 +276,7 @@ pub fn play_all(script: &[u8], mut watch: impl FnMut(&Bench, u8, &[u8])) {
     for (head, body) in pieces(script, 3) {
         watch(&bench, head[0], &body);
         match (head[0], body.len()) {
-            (0, 0) => drop(bench.make_fresh()),
+            (0, 0..=1) => drop(bench.make_fresh_of(body.first().copied().unwrap_or(2))),
             (1 | 9, 2..) => drop(bench.send_into(&body[2..], number(&body).into())),
             (2, 2..) => drop(bench.local(number(&body), &body[2..])),
             (3, 2) => drop(bench.build_into(number(&body).into())),
@@ -285,6 +285,18 @@ pub fn play_all(script: &[u8], mut watch: impl FnMut(&Bench, u8, &[u8])) {
             _ => {}
         }
     }
+}
+
+/// The profile of the memory that each instruction of a script finds; 02 where it has none.
+pub fn profiles(script: &[u8]) -> Vec<u8> {
+    let mut profiles = Vec::new();
+    play_all(script, |bench, _, _| profiles.push(profile(bench)));
+    profiles
+}
+
+/// The profile of memory; 02 where it has none.
+pub fn profile(bench: &Bench) -> u8 {
+    bench.first.filter(|first| *first == 3).unwrap_or(2)
 }
 
 /// Plays a script on a bench and shows each message, with its room, to `watch` before it is sent.

@@ -9,16 +9,20 @@ mod played;
 
 use std::io::{self, Write};
 
+use port::{RELEASE_16, RELEASE_18};
+
 use super::dice::Dice;
 use super::pieces::is_cut;
 use played::{Answer, Port};
 
-/// Writes `count` lines. Of some streams the last one lacks its line feed.
+/// Writes `count` lines, with what ports of both profiles write. Of some streams the last one lacks its
+/// line feed.
 pub fn write<W: Write>(dice: &mut Dice, count: u64, sink: &mut W) -> io::Result<()> {
-    let mut port = Port::fresh();
+    let mut ports = [&RELEASE_18, &RELEASE_16].map(Port::fresh);
     let cut = is_cut(dice);
     for left in (0..count).rev() {
-        sink.write_all(&line(dice, &mut port))?;
+        let port = &mut ports[dice.below(2)];
+        sink.write_all(&line(dice, port))?;
         if !cut || left > 0 {
             sink.write_all(b"\n")?;
         }

@@ -1,7 +1,7 @@
 //! What a port writes: its answers to random commands, and its notifications.
 
 use port::table::{SetBy, TABLE};
-use port::{build_notification, take_local_value, take_message, FRESH};
+use port::{build_notification, make_fresh, take_local_value, take_message, Profile, FRESH};
 
 use crate::traffic::commands;
 use crate::traffic::dice::Dice;
@@ -25,9 +25,11 @@ pub struct Port {
 }
 
 impl Port {
-    pub fn fresh() -> Port {
+    pub fn fresh(profile: &Profile) -> Port {
+        let mut memory = FRESH.to_vec();
+        make_fresh(&mut memory, profile.octet);
         Port {
-            memory: FRESH.to_vec(),
+            memory,
             room: vec![0; ROOM],
         }
     }

@@ -9,8 +9,9 @@ use super::memories::bases;
 use super::script::{Edges, AMPLE};
 use crate::traffic::forms::form_b;
 
-/// First octets that are not 02: beside it, and as it is in some of their bits.
-const FIRSTS: [u8; 6] = [0x00, 0x01, 0x03, 0x12, 0x82, 0xFF];
+/// First octets of no profile: beside those that there are, and as they are in some of their bits. With
+/// that of profile 03 the memory, in which each name is subscribed, is not sound.
+const FIRSTS: [u8; 7] = [0x00, 0x01, 0x03, 0x04, 0x12, 0x82, 0xFF];
 
 pub fn add(edges: &mut Edges) {
     let [fresh, full] = bases(edges);

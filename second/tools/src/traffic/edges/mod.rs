@@ -3,6 +3,7 @@
 //! It is the same at all times, and is stored in front of one by chance, so that each wrong port of
 //! `second/wrong` prints other lines.
 
+mod bounds;
 mod calls;
 mod forms;
 mod gates;
@@ -12,6 +13,7 @@ mod memories;
 mod moves;
 mod not_served;
 mod positions;
+mod profiles;
 mod replies;
 mod schedules;
 mod script;
@@ -37,7 +39,8 @@ pub fn write<W: Write>(count: u64, sink: &mut W) -> io::Result<()> {
     forms::add(&mut edges);
     moves::add(&mut edges);
     gates::add(&mut edges);
-    edges.fresh();
+    profiles::add(&mut edges);
+    bounds::add(&mut edges);
     for (instruction, _) in edges.script.iter().zip(0..count) {
         sink.write_all(instruction)?;
     }

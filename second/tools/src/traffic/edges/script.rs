@@ -2,10 +2,11 @@
 
 use std::io::{self, Sink};
 
+use port::{Profile, RELEASE_18};
 use programs::rig::{code, Rig};
 use programs::stream::Lines;
 
-use crate::traffic::forms::{behind, form_b};
+use crate::traffic::forms::{behind, form_b_of};
 use crate::traffic::operations::Operations;
 use crate::traffic::pieces;
 
@@ -34,6 +35,11 @@ impl Edges {
 
     pub fn fresh(&mut self) {
         self.instruction(code::MAKE_FRESH, &[]);
+    }
+
+    /// Memory made fresh for the profile of an octet, if there is one.
+    pub fn fresh_of(&mut self, octet: u8) {
+        self.instruction(code::MAKE_FRESH, &[octet]);
     }
 
     pub fn message(&mut self, room: u16, message: &[u8]) {
@@ -85,7 +91,12 @@ impl Edges {
     /// Memory that is lent in form B, and whether it is sound: an expiry returns 1 where it is not, and
     /// gates do, and a move back, to which no room is lent.
     pub fn lend(&mut self, memory: &[u8]) {
-        self.lend_octets(&form_b(memory));
+        self.lend_of(&RELEASE_18, memory);
+    }
+
+    /// The same of any profile.
+    pub fn lend_of(&mut self, profile: &Profile, memory: &[u8]) {
+        self.lend_octets(&form_b_of(profile, memory));
         self.expiry();
         self.instruction(code::GATES, &[0; 8]);
         self.back(0);
