@@ -31,7 +31,7 @@ impl Reply {
             let length = reader.number(2);
             let mut contents = Reader(reader.take(length));
             match identifier {
-                0x70 => parsed.capabilities = Some(contents.take(38).to_vec()),
+                0x70 => parsed.capabilities = Some(contents.take(length).to_vec()),
                 0x71 => {
                     parsed.values = contents.counted_values(2);
                     parsed.read_errors = contents.counted_errors();

@@ -102,8 +102,7 @@ impl Profile {
         }
     }
 
-    /// What memory would keep of a value that a message tells; `None` where that is no number that
-    /// memory has room for.
+    /// What memory would keep of a value that a message tells; `None` where it cannot keep it.
     pub fn kept<'m>(&self, index: usize, told: &'m [u8]) -> Option<&'m [u8]> {
         if index != LIST_LENGTH || self.list_length == LIST_LENGTHS[0].len() {
             return Some(told);

@@ -77,6 +77,60 @@ fn starts() -> [Bench; 4] {
     [Bench::fresh(), committed, full(), waiting()]
 }
 
+/// Memory of profile 03: fresh, with a schedule that runs, and as above.
+fn starts_of_release_16() -> [Bench; 4] {
+    let mut committed = Bench::fresh();
+    committed.done(&sets(&schedule(36, 5, [1, 1_000])));
+    [Bench::fresh(), committed, full(), waiting()].map(|bench| bench.with_profile(3))
+}
+
+/// The same operation as controllers of Release 16 send it; none where they do not.
+fn of_release_16(operation: &[u8]) -> Option<Vec<u8>> {
+    match operation {
+        [6..=9, ..] => None,
+        [3, 0, 5, 0, 4, _, _, high, low] => Some(set(0x0005, &[*high, *low])),
+        _ => Some(operation.to_vec()),
+    }
+}
+
+#[test]
+fn random_commands_of_release_16_in_random_cuts() {
+    let mut chance = Chance::new(4);
+    let starts = starts_of_release_16();
+    let (mut carried_out, mut commits, mut too_long) = (0, 0, 0);
+    for _ in 0..12_000 {
+        let operations = random_operations(&mut chance);
+        let operations: Vec<_> = operations.iter().filter_map(|o| of_release_16(o)).collect();
+        if operations.is_empty() {
+            continue;
+        }
+        let start = &starts[chance.below(starts.len())];
+        let mut whole = start.clone();
+        let (number, reply) = whole.send(&command(&operations.concat()));
+        if number != 0 {
+            assert!([3, 7].contains(&number));
+            continue;
+        }
+        let whole_reply = Reply::parse(&reply);
+        let mut parts = start.clone();
+        let mut joined = Reply::default();
+        for part in random_cuts(&mut chance, &operations) {
+            joined.join(Reply::parse(&parts.done(&part)));
+        }
+        assert_eq!(whole_reply, joined);
+        assert!(whole.lent() == parts.lent() && whole.is_sound());
+        assert!(whole_reply.long_updates.is_empty());
+        carried_out += 1;
+        let updates = whole_reply.updates.iter();
+        commits += updates.filter(|(name, _)| *name == 0x8001).count();
+        let errors = whole_reply.update_errors.iter();
+        too_long += errors.filter(|error| **error == (0x0006, 0x6F)).count();
+    }
+    assert!(carried_out > 8_000, "{carried_out} were carried out");
+    assert!(commits > 1_000, "{commits} commits succeeded");
+    assert!(too_long > 1_000, "{too_long} lists were too long");
+}
+
 #[test]
 fn random_commands_in_random_cuts() {
     let mut chance = Chance::new(3);

@@ -139,7 +139,7 @@ fn random_call(chance: &mut Chance, bench: &mut Bench, marks: &mut Marks, seen: 
             number => assert!([7, 8].contains(&number)),
         },
         13 if chance.below(40) == 0 => {
-            bench.make_fresh();
+            bench.make_fresh_of(bench.first.unwrap());
             *marks = Marks::default();
         }
         _ => match bench.expire() {
@@ -151,19 +151,27 @@ fn random_call(chance: &mut Chance, bench: &mut Bench, marks: &mut Marks, seen: 
 
 #[test]
 fn nothing_told_is_lost() {
+    [2, 3].map(none_lost);
+}
+
+/// In both profiles marks are the same, but for those of the name that one does not list.
+fn none_lost(profile: u8) {
     let mut chance = Chance::new(86);
-    let (mut bench, mut marks, mut seen) = (Bench::fresh(), Marks::default(), Seen::default());
+    let mut bench = Bench::fresh_of(profile);
+    let (mut marks, mut seen) = (Marks::default(), Seen::default());
     for _ in 0..60_000 {
         random_call(&mut chance, &mut bench, &mut marks, &mut seen);
         for name in NAMES.into_iter().filter(|name| *name != 0x0002) {
             let flags = bench.memory[6 * place(name) + 2] & !1;
-            assert_eq!(flags, marks.flags(name), "{name:04x}");
+            let unlisted = profile == 3 && name == 0x000B;
+            let expected = if unlisted { 0 } else { marks.flags(name) };
+            assert_eq!(flags, expected, "{name:04x}");
             // What is told is in flight or pending, and while idle it is pending.
             assert!(!marks.told.contains(&name) || flags & 12 != 0, "{name:04x}");
             assert!(marks.waiting || flags & 8 == 0, "{name:04x}");
         }
         assert_eq!(bench.memory[114], u8::from(marks.waiting));
-        assert!(sound::is_sound(&bench.memory) && bench.is_sound());
+        assert!(sound::is_sound_of(profile, &bench.memory) && bench.is_sound());
     }
     let counts = [
         seen.built,

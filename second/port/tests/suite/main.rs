@@ -15,6 +15,7 @@ mod not_served;
 mod numbers;
 mod order;
 mod positions;
+mod profiles;
 mod read_back;
 mod rules;
 mod sound;

@@ -45,7 +45,8 @@ fn random_messages_on_sound_memory() {
     let mut bench = Bench::fresh();
     for round in 0..ROUNDS {
         if round % 1_000 == 0 {
-            bench = [Bench::fresh(), full(), waiting()][chance.below(3)].clone();
+            let starts = [Bench::fresh(), full(), waiting()];
+            bench = starts[chance.below(3)].with_profile([2, 3][chance.below(2)]);
         }
         let message = random_message(&mut chance);
         call_all(&mut bench, &mut chance, &message);
@@ -62,7 +63,7 @@ fn damaged_commands_on_damaged_memory() {
         .collect();
     let good = command(&[sets(&schedule(9, 10, [1, 1_000])), not_served].concat());
     for _ in 0..ROUNDS {
-        let mut bench = starts[chance.below(3)].clone();
+        let mut bench = starts[chance.below(3)].with_profile([2, 3][chance.below(2)]);
         let mut message = good.clone();
         for _ in 0..chance.below(4) {
             let at = chance.below(message.len());

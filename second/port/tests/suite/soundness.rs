@@ -50,9 +50,14 @@ pub fn memories() -> [Vec<u8>; 3] {
     [Bench::fresh().memory, full().memory, waiting().memory]
 }
 
+/// Whether memory is sound in profile 02. In both it is told as the plain reading has it.
 fn agree(memory: &[u8]) -> bool {
-    let told = Bench::of(memory.to_vec()).is_sound();
-    assert_eq!(told, sound::is_sound(memory));
+    let bench = Bench::of(memory.to_vec());
+    let [told, _] = [2, 3].map(|profile| {
+        let told = bench.with_profile(profile).is_sound();
+        assert_eq!(told, sound::is_sound_of(profile, memory), "{profile}");
+        told
+    });
     told
 }
 
@@ -292,6 +297,45 @@ fn running_blocks() {
     assert!(!runs(2, 1, [1, 0], |_| ()));
     assert!(!runs(2, 1, [1, 1], |block| block.push(0)));
     assert!(!runs(2, 1, [1, 1], |block| block.truncate(35)));
+}
+
+/// Where profile 03 ends: 36 entries in the list and in the running block, and no mark on 000B.
+#[test]
+fn the_bounds_of_profile_03() {
+    let base = full().with_profile(3);
+    let sound = |change: &dyn Fn(&mut Vec<u8>)| {
+        let mut bench = base.clone();
+        change(&mut bench.memory);
+        agree(&bench.memory);
+        bench.is_sound()
+    };
+    for count in [0, 1, 35, 36, 37, 63, 64] {
+        let expected = count <= 36;
+        let value = list(count, 1);
+        assert_eq!(sound(&|m| install(m, 0x0006, &value)), expected, "{count}");
+        let idle = sound(&|m| {
+            remove(m, 0x8001);
+            install(m, 0x0006, &value);
+        });
+        assert_eq!(idle, expected, "{count}");
+        if count > 0 {
+            let values = schedule(count, 1, [1, 1]);
+            let block = values[..4].iter().flat_map(|(_, value)| value.clone());
+            let block: Vec<u8> = block.collect();
+            assert_eq!(sound(&|m| install(m, 0x8001, &block)), expected, "{count}");
+        }
+    }
+    for flags in 0..=255 {
+        let place = 6 * place(0x000B) + 2;
+        assert_eq!(sound(&|m| m[place] = flags), flags == 1, "{flags}");
+    }
+    // The number that stands for the entries may be any that its rule has.
+    assert!(sound(&|m| install(m, 0x0005, &[0, 0, 0, 64])));
+    assert!(!sound(&|m| install(m, 0x0005, &[0, 0, 0, 65])));
+    assert!(!sound(&|m| install(m, 0x0005, &[0, 64])));
+    for name in [0x0001, 0x0003, 0x0005, 0x8001, 0x00A4] {
+        assert!(sound(&|m| m[6 * place(name) + 2] |= 2), "{name:04x}");
+    }
 }
 
 #[test]

@@ -10,6 +10,7 @@ mod process;
 mod rig;
 mod rig_gates;
 mod rig_moves;
+mod rig_profiles;
 mod samples;
 mod starters;
 mod told;

@@ -23,6 +23,7 @@ mod pieces;
 mod release_16;
 mod schedules;
 mod script;
+mod stage;
 mod values;
 
 use std::io::{self, Write};

@@ -12,6 +12,9 @@ pub struct Pace {
     /// A message has an ample room once in so many times, else mostly one about as long as its
     /// reply.
     pub ample: usize,
+    /// A scene with another profile lends memory with its octet once in so many times, else it makes
+    /// memory fresh.
+    pub exchanged: usize,
 }
 
 /// Lends and shows as often as calls are made.
@@ -20,6 +23,7 @@ pub const OFTEN: Pace = Pace {
     memory: 3,
     room: 3,
     ample: 2,
+    exchanged: 2,
 };
 
 /// Makes more calls than it lends and shows, and shows memory more often than rooms.
@@ -28,4 +32,5 @@ pub const SELDOM: Pace = Pace {
     memory: 5,
     room: 36,
     ample: 3,
+    exchanged: 5,
 };

@@ -75,6 +75,28 @@ fn captures_print_everything() {
     assert!(accepted > refused, "{accepted} and {refused}");
 }
 
+/// Ports of both profiles write: lengths of two octets and of four, and both causes of what is absent.
+#[test]
+fn captures_have_what_ports_of_both_profiles_write() {
+    let mut seen: BTreeMap<&str, usize> = BTreeMap::new();
+    for seed in 1..=20 {
+        let lines = shown(&stream(Kind::Captures, seed, LINES)).into_iter();
+        for line in lines.flat_map(|shown| shown.printed) {
+            let words: Vec<&str> = line.split_whitespace().collect();
+            let case = match words[..] {
+                ["value" | "update", "0005", _, value] if value.len() == 4 => "two octets",
+                ["value" | "update", "0005", _, value] if value.len() == 8 => "four octets",
+                ["read-error", "00a1" | "00a3", _, "03", _] => "absent, 03",
+                ["read-error", "00a1" | "00a3", _, "6f", _] => "absent, 6f",
+                _ => continue,
+            };
+            *seen.entry(case).or_default() += 1;
+        }
+    }
+    assert_eq!(seen.len(), 4);
+    assert!(seen.values().all(|count| *count >= 20), "{seen:?}");
+}
+
 #[test]
 fn streams_have_the_lines_that_are_asked_for() {
     for kind in [Kind::Captures, Kind::CaptureEdges] {

@@ -261,7 +261,7 @@ const SHARES: [(&str, usize); 10] = [
     ("told again behind an acknowledgement", 600),
     ("given up with pending beside it", 200),
     ("told again behind the fifth expiry", 200),
-    ("shown with something in flight", 15),
+    ("shown with something in flight", 17),
 ];
 
 #[test]

@@ -13,6 +13,7 @@ mod moves_streams;
 mod not_served_streams;
 mod other_calls;
 mod process;
+mod profiles_streams;
 mod shapes;
 mod stack;
 mod stored;

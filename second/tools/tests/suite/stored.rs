@@ -53,11 +53,11 @@ fn the_stored_stream_follows_from_its_seeds() {
     let samples = SAMPLES.map(|name| frames(&sample(name, "hex")));
     let traffic = [
         stream(measured("mixed"), 1, 200),
-        stream(Kind::Frames, 14_684, 320),
+        stream(Kind::Frames, 33_332, 360),
     ];
     let stdin = stored("bridge", "stdin");
     assert!(stdin == [samples.concat(), traffic.concat()].concat());
-    assert!(stdin.len() < 150_000);
+    assert!(stdin.len() < 160_000);
     let frames = pieces(&stdin, 2);
     let lengths: BTreeSet<usize> = frames.iter().map(|(_, message)| message.len()).collect();
     let edges = BTreeSet::from([0, 1, 2_048, 2_049, 65_535]);

@@ -3,6 +3,7 @@
 use std::collections::{BTreeMap, BTreeSet};
 
 use kit::files::stored;
+use kit::{read, set, subscribe, Bench};
 use port::table::TABLE;
 use tools::traffic::{stream, Kind};
 
@@ -11,7 +12,7 @@ use crate::shapes::{assert_often, names, prints, shown, Shown, FORMS, PRINTED, S
 use crate::stored::assert_prints;
 
 /// What the part by chance follows from, and its lines.
-const SEED: u64 = 7_886;
+const SEED: u64 = 2_589;
 const LINES: u64 = 200;
 
 fn lines() -> Vec<Shown> {
@@ -86,6 +87,33 @@ fn the_stored_lines_have_every_name_in_every_kind() {
     }
     // Nineteen words, each for one name.
     assert_eq!(seen.len(), TABLE.len());
+}
+
+/// What a port of profile 03 writes where one of profile 02 would write something else.
+#[test]
+fn the_edges_have_what_a_port_of_profile_03_writes() {
+    let mut bench = Bench::fresh_of(3);
+    let sets = [
+        set(0x0005, &[0, 36]),
+        set(0x0006, &[0; 259]),
+        set(0x000B, &[]),
+        set(0x0042, &[0; 256]),
+    ];
+    let reads = [0x0005, 0x0004, 0x8001, 0x000B].map(read);
+    let names = bench.done(&[1]);
+    let records = bench.done(&[sets.concat(), reads.concat()].concat());
+    bench.done(&[subscribe(0x00A1), subscribe(0x00A4)].concat());
+    for (name, value) in [(0x00A4, &[0, 0x78][..]), (0x00A1, &[1]), (0x00A1, &[])] {
+        assert_eq!(bench.local(name, value), 0);
+    }
+    let (number, notification) = bench.build();
+    assert_eq!(number, 0);
+    let edges = stream(Kind::CaptureEdges, 0, u64::MAX);
+    let lines: BTreeSet<&[u8]> = edges.split(|character| *character == b'\n').collect();
+    for written in [names, records, notification] {
+        let digits: String = written.iter().map(|octet| format!("{octet:02x}")).collect();
+        assert!(lines.contains(format!("0 {digits}").as_bytes()), "{digits}");
+    }
 }
 
 #[test]

@@ -13,7 +13,7 @@ use crate::stored::assert_prints;
 use crate::traffic::{pieces, play, profiles};
 
 /// What the part by chance follows from, and its instructions.
-const SEED: u64 = 15_025;
+const SEED: u64 = 39_698;
 const RECORDS: u64 = 2_700;
 
 /// The part at the edges, which stands in front.
@@ -106,7 +106,7 @@ fn the_stored_script_has_the_edges_and_follows_from_its_seed() {
     let script = stored("rig", "stdin");
     assert!(script == [edges(), stream(Kind::Calls, SEED, RECORDS)].concat());
     assert!(script.len() < 1_480_000);
-    assert!(stored("rig", "stdout").len() < 3_400_000);
+    assert!(stored("rig", "stdout").len() < 3_600_000);
 }
 
 #[test]

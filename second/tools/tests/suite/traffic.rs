@@ -358,12 +358,12 @@ fn streams_follow_from_their_seed_alone() {
     };
     let start = 0xCBF2_9CE4_8422_2325;
     for (kind, pinned) in [
-        (Kind::Frames, 0xCFAD_BA21_4B8D_1C8B),
+        (Kind::Frames, 0xDD63_22F3_081F_F74C),
         (measured("mixed"), 0x8F2D_1544_4C08_A106),
         (measured("empty"), 0xD944_AA8A_A327_8099),
-        (Kind::Script, 0xB599_AA1C_832D_6B12),
-        (Kind::Calls, 0x9E14_EEC1_BE46_6EE8),
-        (Kind::Captures, 0x3354_5649_7394_441E),
+        (Kind::Script, 0x4744_AE5C_8CFF_ECD0),
+        (Kind::Calls, 0xB312_795E_73B8_CD55),
+        (Kind::Captures, 0xFB6D_AA13_FA5D_87AE),
     ] {
         let [first, second] = [1, 2].map(|seed| stream(kind, seed, 1_000));
         assert_ne!(first, second, "{kind:?}");

@@ -12,6 +12,9 @@ use crate::traffic::schedules::{commit_all, Values};
 pub fn add(edges: &mut Edges) {
     let full = base(edges);
     edges.lend(&full);
+    // With a first octet of no profile, and with its own.
+    edges.lend_octets(&[&[4], &full[..]].concat());
+    edges.asked();
     edges.lend_of(&RELEASE_16, &full);
     lists(edges, &full);
     marks(edges, &full);

@@ -27,6 +27,8 @@ use script::Edges;
 /// follows finds it as at the start.
 pub fn write<W: Write>(count: u64, sink: &mut W) -> io::Result<()> {
     let mut edges = Edges::new();
+    // What a rig starts with.
+    edges.show();
     values::add(&mut edges);
     schedules::add(&mut edges);
     marks::add(&mut edges);

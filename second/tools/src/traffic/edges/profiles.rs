@@ -172,6 +172,11 @@ fn codes(edges: &mut Edges) {
         operations.valued(code, 0x0002, &[]);
         operations.read(0x0040);
         edges.message_in_full(AMPLE, &operations.command());
+        let mut operations = Operations::default();
+        operations.valued(code, 0xFFFF, &[3]);
+        operations.valued(code, 0x0002, &[3; 256]);
+        operations.valued(code, 0x0042, &[3; 256]);
+        edges.message_in_full(AMPLE, &operations.command());
         for list in [&[code][..], &[2, 0, 3, code], &[2, 0, 3, code, 0, 3, 0, 1]] {
             edges.message_in_full(AMPLE, &Operations::of(list).command());
         }
@@ -233,6 +238,7 @@ fn schedules(edges: &mut Edges) {
 /// What is absent, read and told, and the profile kept by every call.
 fn absent(edges: &mut Edges, profile: &Profile) {
     edges.fresh_of(profile.octet);
+    edges.instruction(code::GATES, &[0; 8]);
     edges.command(|operations| {
         TABLE.iter().for_each(|row| operations.read(row.name));
         OWN.iter().for_each(|(name, _)| operations.subscribe(*name));

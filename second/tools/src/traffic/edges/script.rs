@@ -88,8 +88,8 @@ impl Edges {
         behind(&self.rig.memory).to_vec()
     }
 
-    /// Memory that is lent in form B, and whether it is sound: an expiry returns 1 where it is not, and
-    /// gates do, and a move back, to which no room is lent.
+    /// Memory that is lent in form B, and whether it is sound: an expiry tells, and gates do, and a move
+    /// back, to which no room is lent.
     pub fn lend(&mut self, memory: &[u8]) {
         self.lend_of(&RELEASE_18, memory);
     }
@@ -97,6 +97,11 @@ impl Edges {
     /// The same of any profile.
     pub fn lend_of(&mut self, profile: &Profile, memory: &[u8]) {
         self.lend_octets(&form_b_of(profile, memory));
+        self.asked();
+    }
+
+    /// Whether what is lent is sound: each of these calls returns 1 where it is not.
+    pub fn asked(&mut self) {
         self.expiry();
         self.instruction(code::GATES, &[0; 8]);
         self.back(0);
