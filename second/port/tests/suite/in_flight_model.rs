@@ -151,7 +151,9 @@ fn random_call(chance: &mut Chance, bench: &mut Bench, marks: &mut Marks, seen: 
 
 #[test]
 fn nothing_told_is_lost() {
-    [2, 3].map(none_lost);
+    for profile in [2, 3] {
+        none_lost(profile);
+    }
 }
 
 /// In both profiles marks are the same, but for those of the name that one does not list.

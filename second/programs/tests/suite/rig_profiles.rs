@@ -54,7 +54,7 @@ fn a_longer_body_ends_the_run() {
 }
 
 #[test]
-fn a_port_of_release_16_is_driven_by_all_calls() {
+fn commands_of_release_16_are_answered() {
     let mut values = schedule(36, 9, [1, 1_000]);
     values[1].1.drain(..2);
     let script = [
@@ -66,9 +66,28 @@ fn a_port_of_release_16_is_driven_by_all_calls() {
         ),
         in_full(4_096, &command(&sets(&values))),
         message(64, &command(&read(0x0005))),
-        instruction(10, &(9 * 36_i64 - 1).to_be_bytes()),
         message(64, &command(&set(0x0006, &[0; 256]))),
         message(64, &command(&[read(0x000B), read(0x0040)].concat())),
+        instruction(10, &(9 * 36_i64 - 1).to_be_bytes()),
+    ];
+    let printed = lines(RIG, &script.concat());
+    let names = "00010003000400050006000700080040004100420060006100a000a100a200a300a48001";
+    assert_eq!(printed[1], format!("0 0 02700024{names}"));
+    assert_eq!(printed[2], "6 6 -");
+    assert!(printed[3].starts_with("0 0 02720125050004"));
+    let expected = [
+        "0 027100080100050002002400",
+        "0 02720005000100066f",
+        "0 027100080002000b0100406f",
+        "0 ff 35 999677",
+    ];
+    assert_eq!(printed[4..], expected);
+}
+
+#[test]
+fn a_port_of_release_16_tells_and_is_not_moved_back() {
+    let script = [
+        fresh(3),
         message(64, &command(&subscribe(0x00A4))),
         instruction(2, &hex("00A4 0078")),
         instruction(2, &hex("00A4")),
@@ -76,32 +95,13 @@ fn a_port_of_release_16_is_driven_by_all_calls() {
         instruction(12, &2_099_u16.to_be_bytes()),
         instruction(12, &2_100_u16.to_be_bytes()),
         message(1, &[4]),
+        instruction(12, &2_100_u16.to_be_bytes()),
     ];
-    let printed = lines(RIG, &script.concat());
-    let names = "00010003000400050006000700080040004100420060006100a000a100a200a300a48001";
-    assert_eq!(printed[1], format!("0 0 02700024{names}"));
-    assert_eq!(printed[2], "6 6 -");
-    assert!(
-        printed[3].starts_with("0 0 02720125050004"),
-        "{}",
-        printed[3]
-    );
-    assert_eq!(
-        printed[4..],
-        [
-            "0 027100080100050002002400",
-            "0 ff 35 999677",
-            "0 02720005000100066f",
-            "0 027100080002000b0100406f",
-            "0 02",
-            "0 -",
-            "0 -",
-            "0 030005000100a46f",
-            "16 -",
-            "19 -",
-            "0 05",
-        ]
-    );
+    let told = "0 030005000100a46f";
+    let expected = [
+        "0 -", "0 02", "0 -", "0 -", told, "16 -", "19 -", "0 05", "19 -",
+    ];
+    assert_eq!(lines(RIG, &script.concat()), expected);
 }
 
 /// A command as controllers of Release 16 send it, to a port that has profile 02.

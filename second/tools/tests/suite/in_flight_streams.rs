@@ -199,13 +199,13 @@ impl Seen {
     fn lent(&mut self, lent: &[u8]) {
         (self.turned_back, self.kept) = Default::default();
         self.last = None;
-        let [profile @ (2 | 3), memory @ ..] = lent else {
-            return;
-        };
-        if lent.len() != 2_101 {
-            return;
+        if let ([profile @ (2 | 3), memory @ ..], 2_101) = (lent, lent.len()) {
+            self.lent_in_form_b(*profile, memory);
         }
-        let is_sound = |memory: Vec<u8>| Bench::of(memory).with_profile(*profile).is_sound();
+    }
+
+    fn lent_in_form_b(&mut self, profile: u8, memory: &[u8]) {
+        let is_sound = |memory: Vec<u8>| Bench::of(memory).with_profile(profile).is_sound();
         let mended = |mend: &dyn Fn(usize, u8) -> u8| is_sound(mended(memory, mend));
         let mut cells = memory[..114].iter().skip(2).step_by(6);
         let out = cells.any(|flags| flags & IN_FLIGHT != 0);
@@ -219,15 +219,11 @@ impl Seen {
         let idle = out && memory[114] == 0 && is_sound(waiting);
         self.count("lent in flight while idle", idle);
         let of = |setter: SetBy| {
-            // Nor is a name that is not listed subscribed.
-            let right = if setter == SetBy::Nobody && *profile == 3 {
-                1
-            } else {
-                3
-            };
-            mended(&|place, flags| {
-                let wrong = TABLE[place].set_by == setter && flags & IN_FLIGHT != 0;
-                flags & if wrong { right } else { !0 }
+            mended(&|place, flags| match TABLE[place].set_by == setter {
+                // A name that is not listed is not subscribed either.
+                true if flags & IN_FLIGHT != 0 && setter == SetBy::Nobody && profile == 3 => 1,
+                true if flags & IN_FLIGHT != 0 => flags & 3,
+                _ => flags,
             })
         };
         self.count(
