@@ -9,7 +9,7 @@ use Rattle.meaning.proofs.Refused.{RoomAfter}
 use Rattle.octets.specs.Writing.{Wrote}
 use Rattle.endpoint.specs.Outcomes.{numberOf, lengthOf, positionOf, Gives}
 use Rattle.endpoint.specs.declared.Outcome.{Outcome}
-use Rattle.endpoint.specs.declared.Outcome.the-variants.{Done, MemoryUnsound, MessageEmpty, MessageTooLong, TypeUnknown, LengthWrong, OperationMalformed, ReplyDoesNotFit, Idle, NothingPending, AlreadyWaiting, NotificationRoomTooSmall, NotPermitted, SendAgain, GivenUp}
+use Rattle.endpoint.specs.declared.Outcome.the-variants.{Done, MemoryUnsound, MessageEmpty, MessageTooLong, TypeUnknown, LengthWrong, OperationMalformed, ReplyDoesNotFit, Idle, NothingPending, AlreadyWaiting, NotificationRoomTooSmall, NotPermitted, ProfileUnknown, SendAgain, GivenUp}
 use Rattle.endpoint.proofs.OneOutcome.{found}
 use Rattle.text.specs.Lines.{line, fullLine}
 use Rattle.answers.specs.Answers.{lineOf, answerLine, fullOf, fullAnswer, Answers}
@@ -30,6 +30,7 @@ number-short NothingPending = omega arith
 number-short AlreadyWaiting = omega arith
 number-short NotificationRoomTooSmall = omega arith
 number-short NotPermitted = omega arith
+number-short ProfileUnknown = omega arith
 number-short SendAgain = omega arith
 number-short GivenUp = omega arith
 

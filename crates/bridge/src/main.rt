@@ -96,7 +96,7 @@ fn run(memory: &mut [u8], block: &mut [u8], room: &mut [u8], out: &mut [u8])
 
 fn main() {
     let mut memory = [0u8; endpoint::MEMORY_LENGTH];
-    endpoint::make_fresh(&mut memory);
+    endpoint::make_fresh(&mut memory, endpoint::RELEASE_18);
     let mut block = [0u8; INPUT];
     let mut room = [0u8; endpoint::REPLY_MOST];
     let mut out = [0u8; DUE + LINE];

@@ -1,19 +1,23 @@
 -- What a set and a read find: lengths of values that sound memory holds, a commit's conditions, causes by the first check that fails.
 use Prim.Native.Nat.{ℕ, zero, suc, _-_, _≤_, _<_}
 use native.Mathlib.Omega.{arith}
-use mathlib.Core.Path.{_≡_, refl, sym, _∙_}
+use mathlib.Core.Path.{_≡_, refl, sym, ap, _∙_}
 use mathlib.Core.Logic.{_≢_}
 use mathlib.Core.Bool.{Bool, true, false, _&&_, cond, and-true, and-false}
-use mathlib.Core.List.{List}
+use mathlib.Core.List.{List, [], _∷_}
 use lib.ListN.{length}
 use lib.Dec.{eqb}
-use borrow.Author.Tests.{lt-ltb, le-ltb, ne-eqb}
-use Rattle.meaning.specs.Octets.{same, every}
+use borrow.Author.Tests.{ltb-true, eqb-true, ne-eqb}
+use Rattle.meaning.specs.Octets.{octet, same, every}
 use Rattle.meaning.specs.Checks.{firstFailed, whenPassed}
-use Rattle.meaning.specs.Table.{rows, rowAt, place, listed, byController, entryCount, memoryLength, adminBaseTime, adminControlListLength, adminControlList, adminCycleTime, commit}
-use Rattle.meaning.specs.Block.{permits, joinedBlock, formAndFit, sums}
+use Rattle.meaning.specs.Table.{rows, rowAt, place, byController, entryCount, memoryLength, adminBaseTime, adminControlListLength, adminControlList, adminCycleTime, commit}
+use Rattle.meaning.specs.Block.{permits, keeps, joinedBlock, formAndFit, sums}
 use Rattle.meaning.specs.Memory.{present, body, pending, inFlight, store, setMarks, fourPresent, sound}
+use Rattle.meaning.specs.Profile.{isRelease16, lists, listed, spared, inMemory, sendable, causeAbsent}
 use Rattle.meaning.specs.Step.{block, commits, permitted, setChecks, stored, setMemory, subscribeMemory, unsubscribeMemory, setAnswer, readChecks, readAnswer, value, readError, update, updateError, shown}
+use Rattle.meaning.proofs.Tests.{and-left, and-right, not-true}
+use Rattle.meaning.proofs.Values.{permits-opened}
+use Rattle.meaning.proofs.Profiles.{memory-length, absent-fails}
 use Rattle.meaning.proofs.Sound.{opened, entry-of, four-at}
 use Rattle.schedule.proofs.Blocks.{permitted-base, permitted-count, permitted-list, permitted-ratio}
 
@@ -80,81 +84,127 @@ pub block-found : (m : List ℕ) {b c l r : List ℕ} → b ≡ body m adminBase
 unfolding block
 block-found m hb hc hl hr = rw (hb, hc, hl, hr)
 
+-- ---- names that the profile lists
+
+pub lists-place : (p k : ℕ) → lists p k ≡ true → k < entryCount
+unfolding lists
+lists-place p k e = ltb-true _ _ (and-left _ _ e)
+
 -- ---- a read
 
-pub read-unlisted : (m : List ℕ) (n : ℕ) → entryCount ≤ place n → readAnswer m n ≡ readError n 0x01
+pub read-unlisted : (p : ℕ) (m : List ℕ) (n : ℕ) → lists p (place n) ≡ false → readAnswer p m n ≡ readError n 0x01
 unfolding readAnswer readChecks firstFailed whenPassed listed
-read-unlisted m n h = rw (le-ltb (place n) entryCount h)
+read-unlisted p m n h = rw h
 
-module _ (m : List ℕ) (n : ℕ) (h : place n < entryCount) where
-  pub read-absent : present m (place n) ≡ false → readAnswer m n ≡ readError n 0x03
-  unfolding readAnswer readChecks firstFailed whenPassed listed
-  read-absent e = rw (lt-ltb (place n) entryCount h, e)
+module _ (p : ℕ) (m : List ℕ) (n : ℕ) (h : lists p (place n) ≡ true) where
+  pub read-absent : present m (place n) ≡ false → readAnswer p m n ≡ readError n (causeAbsent p)
+  unfolding readAnswer readChecks firstFailed listed
+  read-absent e = rw (h, e) (absent-fails p (value n (shown p m (place n))) (readError n))
 
-  pub read-value : present m (place n) ≡ true → readAnswer m n ≡ value n (shown m (place n))
+  pub read-value : present m (place n) ≡ true → readAnswer p m n ≡ value n (shown p m (place n))
   unfolding readAnswer readChecks firstFailed whenPassed listed
-  read-value e = rw (lt-ltb (place n) entryCount h, e)
+  read-value e = rw (h, e)
 
 -- ---- a value put at a place
 
-pub permitted-commit : (m v : List ℕ) (k : ℕ) → k ≡ commit → (permitted m k v ≡ commits m v) × (store m k (stored m k v) ≡ store m commit (block m))
+pub permitted-commit : (p : ℕ) (m v : List ℕ) (k : ℕ) → k ≡ commit → (permitted p m k v ≡ commits m v) × (store m k (stored p m k v) ≡ store m commit (block m))
 unfolding permitted stored
-permitted-commit m v k e = rw e (refl, refl)
+permitted-commit p m v k e = rw e (refl, refl)
 
-pub permitted-row : (m v : List ℕ) (k : ℕ) → k ≢ commit → (permitted m k v ≡ permits (rowAt k) v) × (stored m k v ≡ v)
+-- what is put is the value as memory has it
+pub permitted-row : (p : ℕ) (m v w : List ℕ) (k : ℕ) → k ≢ commit → w ≡ inMemory p k v → (permitted p m k v ≡ permits (rowAt k) w) × (stored p m k v ≡ w)
 unfolding permitted stored
-permitted-row m v k e = rw (ne-eqb k commit e) (refl, refl)
+permitted-row p m v w k e q = rw (ne-eqb k commit e, ← q) (refl, refl)
+
+-- which is the value itself where nothing is spared
+pub not-spared : (p k : ℕ) (v : List ℕ) → spared p k ≡ 0 → v ≡ inMemory p k v
+unfolding inMemory
+not-spared p k v e = rw e
+
+-- else two octets 0 come ahead, and its room has four octets
+spared-two : (p k : ℕ) → spared p k ≢ 0 → (spared p k ≡ 2) × (k ≡ adminControlListLength)
+unfolding spared
+spared-two p k ne = go (isRelease16 p && eqb k adminControlListLength) refl
+  where
+    go : (b : Bool) → (isRelease16 p && eqb k adminControlListLength) ≡ b → (spared p k ≡ 2) × (k ≡ adminControlListLength)
+    go true e = (rw e, eqb-true k adminControlListLength (and-right (isRelease16 p) _ e))
+    go false e = absurd (ne (rw e))
+
+pub two-spared : (p k : ℕ) (v : List ℕ) → spared p k ≢ 0 → length v ≡ 2 → 0 ∷ 0 ∷ octet v 0 ∷ octet v 1 ∷ [] ≡ inMemory p k v
+unfolding inMemory
+two-spared p k v ne h = rw (spared-two p k ne .0) (ap (λ (l : List ℕ). 0 ∷ 0 ∷ l) (go v h))
+  where
+    go : (v : List ℕ) → length v ≡ 2 → octet v 0 ∷ octet v 1 ∷ [] ≡ v
+    go [] h = absurd (omega (arith, h))
+    go (x ∷ []) h = absurd (omega (arith, h))
+    go (x ∷ y ∷ []) h = refl
+    go (x ∷ y ∷ z ∷ v) h = absurd (omega (arith, h))
+
+pub spared-unfit : (p : ℕ) (m v : List ℕ) (k : ℕ) → k ≢ commit → spared p k ≢ 0 → length v ≢ 2 → permitted p m k v ≡ false
+unfolding rowAt rows
+spared-unfit p m v k e ne h =
+    permitted-row p m v (inMemory p k v) k e refl .0
+    ∙ not-true _ (λ t. let o = permits-opened (rowAt k) (inMemory p k v) t in h (omega (arith, four o, memory-length p k v, spared-two p k ne .0)))
+  where
+    four : (rowAt k .least ≤ length (inMemory p k v)) × (length (inMemory p k v) ≤ rowAt k .most) × (keeps (rowAt k .rule) (inMemory p k v) ≡ true) → length (inMemory p k v) ≡ 4
+    four o =
+        let q = spared-two p k ne .1 in
+        omega (arith, o .0, o .1, ap (λ (j : ℕ). rowAt j .least) q, ap (λ (j : ℕ). rowAt j .most) q)
 
 -- ---- a set: its cause, and the memory that it leaves
 
-abbrev Set : List ℕ → ℕ → List ℕ → ℕ → List ℕ → Type 0
-Set m n v cause after = (cause ≡ firstFailed (setChecks m n v)) × (after ≡ setMemory m n v)
+abbrev Set : (p : ℕ) → List ℕ → ℕ → List ℕ → ℕ → List ℕ → Type 0
+Set p m n v cause after = (cause ≡ firstFailed (setChecks p m n v)) × (after ≡ setMemory p m n v)
 
-pub set-unlisted : (m : List ℕ) (n : ℕ) (v : List ℕ) → entryCount ≤ place n → Set m n v 0x01 m
+pub set-unlisted : (p : ℕ) (m : List ℕ) (n : ℕ) (v : List ℕ) → lists p (place n) ≡ false → Set p m n v 0x01 m
 unfolding setMemory setChecks firstFailed whenPassed listed
-set-unlisted m n v h = rw (le-ltb (place n) entryCount h) (refl, refl)
+set-unlisted p m n v h = rw h (refl, refl)
 
-module _ (m : List ℕ) (n k : ℕ) (v : List ℕ) (e : k ≡ place n) (h : k < entryCount) where
-  pub set-foreign : byController (rowAt k .owner) ≡ false → Set m n v 0x6F m
+module _ (p : ℕ) (m : List ℕ) (n k : ℕ) (v : List ℕ) (e : k ≡ place n) (h : lists p k ≡ true) where
+  pub set-foreign : byController (rowAt k .owner) ≡ false → Set p m n v 0x6F m
   unfolding setMemory setChecks firstFailed whenPassed listed
-  set-foreign o = rw (← e, lt-ltb k entryCount h, o) (refl, refl)
+  set-foreign o = rw (← e, h, o) (refl, refl)
+
+  pub set-too-long : byController (rowAt k .owner) ≡ true → sendable p v ≡ false → Set p m n v 0x6F m
+  unfolding setMemory setChecks firstFailed whenPassed listed
+  set-too-long o l = rw (← e, h, o, l) (refl, refl)
 
   -- what a value put at the place leaves
-  module _ (o : byController (rowAt k .owner) ≡ true) {t : Bool} {after : List ℕ} (p : t ≡ permitted m k v) (q : after ≡ cond (permitted m k v) (store m k (stored m k v)) m) where
-    pub set-refused : t ≡ false → Set m n v 0x02 after
+  module _ (o : byController (rowAt k .owner) ≡ true) (l : sendable p v ≡ true) {t : Bool} {after : List ℕ} (y : t ≡ permitted p m k v) (q : after ≡ cond (permitted p m k v) (store m k (stored p m k v)) m) where
+    pub set-refused : t ≡ false → Set p m n v 0x02 after
     unfolding setMemory setChecks firstFailed whenPassed listed
-    set-refused f = rw (q, ← e, lt-ltb k entryCount h, o, sym p ∙ f) (refl, refl)
+    set-refused f = rw (q, ← e, h, o, l, sym y ∙ f) (refl, refl)
 
-    pub set-done : t ≡ true → Set m n v 0 after
+    pub set-done : t ≡ true → Set p m n v 0 after
     unfolding setMemory setChecks firstFailed whenPassed listed
-    set-done f = rw (q, ← e, lt-ltb k entryCount h, o, sym p ∙ f) (refl, refl)
+    set-done f = rw (q, ← e, h, o, l, sym y ∙ f) (refl, refl)
 
 -- ---- marks
 
-module _ (m : List ℕ) (n k : ℕ) (e : k ≡ place n) where
-  pub subscribe-listed : {after : List ℕ} → k < entryCount → after ≡ setMarks m k true (pending m k) (inFlight m k) → after ≡ subscribeMemory m n
+module _ (p : ℕ) (m : List ℕ) (n k : ℕ) (e : k ≡ place n) where
+  pub subscribe-listed : {after : List ℕ} → lists p k ≡ true → after ≡ setMarks m k true (pending m k) (inFlight m k) → after ≡ subscribeMemory p m n
   unfolding subscribeMemory listed
-  subscribe-listed h r = r ∙ rw (← e, lt-ltb k entryCount h)
+  subscribe-listed h r = r ∙ rw (← e, h)
 
-  pub subscribe-unlisted : entryCount ≤ k → m ≡ subscribeMemory m n
+  pub subscribe-unlisted : lists p k ≡ false → m ≡ subscribeMemory p m n
   unfolding subscribeMemory listed
-  subscribe-unlisted h = rw (← e, le-ltb k entryCount h)
+  subscribe-unlisted h = rw (← e, h)
 
-  pub unsubscribe-listed : {after : List ℕ} → k < entryCount → after ≡ setMarks m k false false false → after ≡ unsubscribeMemory m n
+  pub unsubscribe-listed : {after : List ℕ} → lists p k ≡ true → after ≡ setMarks m k false false false → after ≡ unsubscribeMemory p m n
   unfolding unsubscribeMemory listed
-  unsubscribe-listed h r = r ∙ rw (← e, lt-ltb k entryCount h)
+  unsubscribe-listed h r = r ∙ rw (← e, h)
 
-  pub unsubscribe-unlisted : entryCount ≤ k → m ≡ unsubscribeMemory m n
+  pub unsubscribe-unlisted : lists p k ≡ false → m ≡ unsubscribeMemory p m n
   unfolding unsubscribeMemory listed
-  unsubscribe-unlisted h = rw (← e, le-ltb k entryCount h)
+  unsubscribe-unlisted h = rw (← e, h)
 
 -- ---- the answer to a set, by its cause
 
-pub answer-update : (m : List ℕ) (n : ℕ) (v : List ℕ) → firstFailed (setChecks m n v) ≡ 0 → setAnswer m n v ≡ update n v
+pub answer-update : (p : ℕ) (m : List ℕ) (n : ℕ) (v : List ℕ) → firstFailed (setChecks p m n v) ≡ 0 → setAnswer p m n v ≡ update n v
 unfolding setAnswer whenPassed
-answer-update m n v e = rw e
+answer-update p m n v e = rw e
 
-pub answer-cause : (m : List ℕ) (n cause : ℕ) (v : List ℕ) → cause ≡ firstFailed (setChecks m n v) → cause ≢ 0 → setAnswer m n v ≡ updateError n cause
+pub answer-cause : (p : ℕ) (m : List ℕ) (n cause : ℕ) (v : List ℕ) → cause ≡ firstFailed (setChecks p m n v) → cause ≢ 0 → setAnswer p m n v ≡ updateError n cause
 unfolding setAnswer whenPassed
-answer-cause m n zero v e h = absurd (h refl)
-answer-cause m n (suc cause) v e h = rw (← e)
+answer-cause p m n zero v e h = absurd (h refl)
+answer-cause p m n (suc cause) v e h = rw (← e)

@@ -14,40 +14,40 @@ neither : (a b : Bool) → (a || b) ≡ false → (a ≡ false) × (b ≡ false)
 neither true b e = absurd (true≢false e)
 neither false b e = (refl, e)
 
-pub step-unchanged : (m : List ℕ) (o : Op) → mayChange (told (answer m o)) ≡ false → step m o ≡ m
+pub step-unchanged : (p : ℕ) (m : List ℕ) (o : Op) → mayChange (told (answer p m o)) ≡ false → step p m o ≡ m
 unfolding mayChange told answer step setAnswer setMemory whenPassed
-step-unchanged m capabilities e = refl
-step-unchanged m (read n) e = refl
-step-unchanged m (set n v) e = go (firstFailed (setChecks m n v)) e
+step-unchanged p m capabilities e = refl
+step-unchanged p m (read n) e = refl
+step-unchanged p m (set n v) e = go (firstFailed (setChecks p m n v)) e
   where
-    go : (c : ℕ) → mayChange (told (whenPassed c (update n v) (updateError n))) ≡ false → whenPassed c (store m (place n) (stored m (place n) v)) (λ _. m) ≡ m
+    go : (c : ℕ) → mayChange (told (whenPassed c (update n v) (updateError n))) ≡ false → whenPassed c (store m (place n) (stored p m (place n) v)) (λ _. m) ≡ m
     go zero e = absurd (true≢false e)
     go (suc c) e = refl
-step-unchanged m (subscribe n) e = absurd (true≢false e)
-step-unchanged m (unsubscribe n) e = absurd (true≢false e)
-step-unchanged m (selectiveRead n v) e = refl
-step-unchanged m (selectiveSubscribe n v) e = refl
-step-unchanged m (selectiveUnsubscribe n v) e = refl
-step-unchanged m (deleteEntry n v) e = refl
+step-unchanged p m (subscribe n) e = absurd (true≢false e)
+step-unchanged p m (unsubscribe n) e = absurd (true≢false e)
+step-unchanged p m (selectiveRead n v) e = refl
+step-unchanged p m (selectiveSubscribe n v) e = refl
+step-unchanged p m (selectiveUnsubscribe n v) e = refl
+step-unchanged p m (deleteEntry n v) e = refl
 
-pub after-unchanged : (m : List ℕ) (os : List Op) → anyChange (answers m os) ≡ false → after m os ≡ m
+pub after-unchanged : (p : ℕ) (m : List ℕ) (os : List Op) → anyChange (answers p m os) ≡ false → after p m os ≡ m
 unfolding anyChange answers after
-after-unchanged m [] e = refl
-after-unchanged m (o ∷ os) e =
-    let n = neither (mayChange (told (answer m o))) _ e in
-    let s = step-unchanged m o (n .0) in
-    rw s (after-unchanged m os (rw s at (n .1)))
+after-unchanged p m [] e = refl
+after-unchanged p m (o ∷ os) e =
+    let n = neither (mayChange (told (answer p m o))) _ e in
+    let s = step-unchanged p m o (n .0) in
+    rw s (after-unchanged p m os (rw s at (n .1)))
 
 -- a command of reads alone changes nothing
-read-unchanging : (m : List ℕ) (n : ℕ) → mayChange (told (readAnswer m n)) ≡ false
+read-unchanging : (p : ℕ) (m : List ℕ) (n : ℕ) → mayChange (told (readAnswer p m n)) ≡ false
 unfolding mayChange told readAnswer whenPassed
-read-unchanging m n = go (firstFailed (readChecks m n))
+read-unchanging p m n = go (firstFailed (readChecks p m n))
   where
-    go : (c : ℕ) → mayChange (told (whenPassed c (value n (shown m (place n))) (readError n))) ≡ false
+    go : (c : ℕ) → mayChange (told (whenPassed c (value n (shown p m (place n))) (readError n))) ≡ false
     go zero = refl
     go (suc c) = refl
 
-pub reads-alone : (m : List ℕ) (ns : List ℕ) → anyChange (answers m (map read ns)) ≡ false
+pub reads-alone : (p : ℕ) (m : List ℕ) (ns : List ℕ) → anyChange (answers p m (map read ns)) ≡ false
 unfolding anyChange answers answer step
-reads-alone m [] = refl
-reads-alone m (n ∷ ns) = rw (read-unchanging m n) (reads-alone m ns)
+reads-alone p m [] = refl
+reads-alone p m (n ∷ ns) = rw (read-unchanging p m n) (reads-alone p m ns)

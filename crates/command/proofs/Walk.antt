@@ -21,50 +21,50 @@ use Rattle.operation.specs.Handing.{opOf, Inside}
 use Rattle.operation.proofs.Turns.{HandsOut, turn-malformed, turn-end, turn-whole, turn-ops}
 
 -- the operations from a position on
-abbrev pub rest : List ℕ → ℕ → List operation.Op
-rest list at = orNone (parse (drop at list))
+abbrev pub rest : (p : ℕ) → List ℕ → ℕ → List operation.Op
+rest p list at = orNone (parse p (drop at list))
 
 -- the operations before the position have been carried out on the copy of m
-pub record Under (m list copy : List ℕ) (at : ℕ) : Type 0 where
+pub record Under (p : ℕ) (m list copy : List ℕ) (at : ℕ) : Type 0 where
   pub inside : at ≤ length list
   pub isSound : sound copy ≡ true
-  pub whole : isSome (parse (drop at list)) ≡ true
-  pub leads : after copy (rest list at) ≡ after m (rest list 0)
+  pub whole : isSome (parse p (drop at list)) ≡ true
+  pub leads : after p copy (rest p list at) ≡ after p m (rest p list 0)
 
-pub under-start : (m list copy : List ℕ) → sound m ≡ true → isSome (parse list) ≡ true → copy ≡ m → Under m list copy 0
-under-start m list copy s w e = record { inside = omega arith; isSound = rw e s; whole = w; leads = rw e }
+pub under-start : (p : ℕ) (m list copy : List ℕ) → sound m ≡ true → isSome (parse p list) ≡ true → copy ≡ m → Under p m list copy 0
+under-start p m list copy s w e = record { inside = omega arith; isSound = rw e s; whole = w; leads = rw e }
 
 -- where no operation is handed out, none is left
-no-more : (list : List ℕ) (at : ℕ) (h : Handed) → isSome (parse (drop at list)) ≡ true → HandsOut list at h → OneOf (1 ∷ 2 ∷ []) (tagOf the-type h) → rest list at ≡ []
-no-more list at (Operation o next) w e (inl q) = absurd (omega (arith, q))
-no-more list at (Operation o next) w e (inr q) = absurd (omega (arith, q))
-no-more list at (Malformed p) w e t = absurd (false≢true (sym (ap isSome (turn-malformed list at p (e .0))) ∙ w))
-no-more list at End w e t = ap orNone (turn-end list at (e .0))
+no-more : (p : ℕ) (list : List ℕ) (at : ℕ) (h : Handed) → isSome (parse p (drop at list)) ≡ true → HandsOut p list at h → OneOf (1 ∷ 2 ∷ []) (tagOf the-type h) → rest p list at ≡ []
+no-more p list at (Operation o next) w e (inl q) = absurd (omega (arith, q))
+no-more p list at (Operation o next) w e (inr q) = absurd (omega (arith, q))
+no-more p list at (Malformed f) w e t = absurd (false≢true (sym (ap isSome (turn-malformed p list at f (e .0))) ∙ w))
+no-more p list at End w e t = ap orNone (turn-end p list at (e .0))
 
-module _ (m list copy : List ℕ) (at : ℕ) (u : Under m list copy at) (h : Handed) (hands : HandsOut list at h) where
-  pub under-end : OneOf (1 ∷ 2 ∷ []) (tagOf the-type h) → (rest list at ≡ []) × (copy ≡ after m (rest list 0))
+module _ (p : ℕ) (m list copy : List ℕ) (at : ℕ) (u : Under p m list copy at) (h : Handed) (hands : HandsOut p list at h) where
+  pub under-end : OneOf (1 ∷ 2 ∷ []) (tagOf the-type h) → (rest p list at ≡ []) × (copy ≡ after p m (rest p list 0))
   unfolding after
   under-end t =
-      let e = no-more list at h (u .whole) hands t in
+      let e = no-more p list at h (u .whole) hands t in
       (e, rw e at (u .leads))
 
   -- one turn
   module _ (o : Op) (next : ℕ) (e : h ≡ Operation o next) where
-    handed : HandsOut list at (Operation o next)
-    handed = subst (HandsOut list at) e hands
+    handed : HandsOut p list at (Operation o next)
+    handed = subst (HandsOut p list at) e hands
 
     pub under-ahead : (at < next) × (next ≤ length list) × Inside (length list) o
     under-ahead = handed .1
 
-    pub under-rest : rest list at ≡ opOf list o ∷ rest list next
-    under-rest = turn-ops list at next o (handed .0) (u .whole)
+    pub under-rest : rest p list at ≡ opOf list o ∷ rest p list next
+    under-rest = turn-ops p list at next o (handed .0) (u .whole)
 
-    pub under-turn : (copy′ : List ℕ) → copy′ ≡ step copy (opOf list o) → Under m list copy′ next
+    pub under-turn : (copy′ : List ℕ) → copy′ ≡ step p copy (opOf list o) → Under p m list copy′ next
     unfolding after
     under-turn copy′ q =
         record {
           inside = under-ahead .1;
-          isSound = rw q (step-sound copy (opOf list o) (u .isSound));
-          whole = turn-whole list at next o (handed .0) (u .whole);
+          isSound = rw q (step-sound p copy (opOf list o) (u .isSound));
+          whole = turn-whole p list at next o (handed .0) (u .whole);
           leads = rw q (rw under-rest at (u .leads));
         }

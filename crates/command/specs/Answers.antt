@@ -12,13 +12,13 @@ use Rattle.command.specs.declared.Answer.{Answer}
 use Rattle.command.specs.declared.Answer.the-variants.{Names, Value, ReadError, Update, UpdateError, Silent}
 
 -- an answer to the operation o: its name is the operation's, and its value lies in the memory m or in the list s
-unfoldable pub answerOf : List ℕ → List ℕ → Op → Answer → step.Answer
-answerOf m s o Names = names
-answerOf m s o (Value k) = value (nameOf o) (shown m k)
-answerOf m s o (ReadError c) = readError (nameOf o) c
-answerOf m s o Update = update (nameOf o) (part s (fromOf o) (sizeOf o))
-answerOf m s o (UpdateError c) = updateError (nameOf o) c
-answerOf m s o Silent = silent
+unfoldable pub answerOf : (p : ℕ) → List ℕ → List ℕ → Op → Answer → step.Answer
+answerOf p m s o Names = names
+answerOf p m s o (Value k) = value (nameOf o) (shown p m k)
+answerOf p m s o (ReadError c) = readError (nameOf o) c
+answerOf p m s o Update = update (nameOf o) (part s (fromOf o) (sizeOf o))
+answerOf p m s o (UpdateError c) = updateError (nameOf o) c
+answerOf p m s o Silent = silent
 
 -- a value read lies at a place of the table
 abbrev pub InTable : Answer → Type 0

@@ -1,12 +1,14 @@
-// One operation of a command carried out on the working copy: the memory that it leaves and the answer that it gives.
-// Both are those of `meaning`, for sound memory.
+// One operation of a command carried out on the working copy: the memory that it leaves and the answer that it gives, by the
+// port's profile. Both are those of `meaning`, for sound memory.
 ghost use Prim.Native.Nat.{_<_};
 ghost use mathlib.Core.Path.{_≡_};
 ghost use mathlib.Core.Bool.{true, cond};
 ghost use lib.ListN.{length};
 ghost use Rattle.meaning.specs.Checks.{firstFailed};
-ghost use Rattle.meaning.specs.Table.{memoryLength, entryCount, commit};
+ghost use Rattle.meaning.specs.Table.{memoryLength, entryCount, rowAt, commit};
+ghost use Rattle.meaning.specs.Block.{permits};
 ghost use Rattle.meaning.specs.Memory.{sound, store};
+ghost use Rattle.meaning.specs.Profile.{sendable};
 ghost use Rattle.meaning.specs.Step.{readAnswer, block, commits, permitted, setChecks, stored, setMemory, subscribeMemory, unsubscribeMemory, step, answer};
 ghost use Rattle.operation.specs.Handing.{opOf, Inside};
 ghost use Rattle.command.specs.Answers.{told, mayChange};
@@ -24,16 +26,16 @@ pub enum Answer {
 }
 
 // A read: its value, or the causes of RULES 11.3 and 11.4.
-fn read(m: &[u8], name: usize) -> Answer
+fn read(m: &[u8], name: usize, profile: u8) -> Answer
     requires { ⌜ length (now m) ≡ memoryLength ⌝ }
-    ensures { λ r. ⌜ r ≡ told (readAnswer (now (m .entry)) name) ⌝ }
+    ensures { λ r. ⌜ r ≡ told (readAnswer profile (now (m .entry)) name) ⌝ }
 {
     let k = table::place_of(name);
-    if table::ENTRY_COUNT <= k {
+    if !table::lists(profile, k) {
         return Answer::ReadError(wire::CAUSE_NOT_SUPPORTED);
     }
     if !memory::present(m, k) {
-        return Answer::ReadError(wire::CAUSE_UNAVAILABLE);
+        return Answer::ReadError(table::absent_cause(profile));
     }
     Answer::Value(k as u8)
 }
@@ -61,14 +63,11 @@ fn put_commit(m: &mut [u8], v: &[u8]) -> bool
     true
 }
 
-// A value put at a place, where its row or, for 8001, a commit's conditions permit it.
-fn put_value(m: &mut [u8], k: usize, v: &[u8]) -> bool
+// A value as memory has it put at a place, where its row permits it.
+fn put_row(m: &mut [u8], k: usize, v: &[u8]) -> bool
     requires { ⌜ (sound (now m) ≡ true) × (k < entryCount) ⌝ }
-    ensures { λ r. ⌜ (r ≡ permitted (now (m .entry)) k (now (v .entry))) × (now (m .exit) ≡ cond (permitted (now (m .entry)) k (now (v .entry))) (store (now (m .entry)) k (stored (now (m .entry)) k (now (v .entry)))) (now (m .entry))) ⌝ }
+    ensures { λ r. ⌜ (r ≡ permits (rowAt k) (now (v .entry))) × (now (m .exit) ≡ cond (permits (rowAt k) (now (v .entry))) (store (now (m .entry)) k (now (v .entry))) (now (m .entry))) ⌝ }
 {
-    if k == table::COMMIT {
-        return put_commit(m, v);
-    }
     if !table::permits(k, v) {
         return false;
     }
@@ -76,16 +75,42 @@ fn put_value(m: &mut [u8], k: usize, v: &[u8]) -> bool
     true
 }
 
+// A value from the wire put at a place, where its row or, for 8001, a commit's conditions permit it. Only one value has octets
+// spared, and with them it has four: fewer than two or more would not fill its room (RULES 24.4).
+fn put_value(m: &mut [u8], k: usize, v: &[u8], profile: u8) -> bool
+    requires { ⌜ (sound (now m) ≡ true) × (k < entryCount) ⌝ }
+    ensures { λ r. ⌜ (r ≡ permitted profile (now (m .entry)) k (now (v .entry))) × (now (m .exit) ≡ cond (permitted profile (now (m .entry)) k (now (v .entry))) (store (now (m .entry)) k (stored profile (now (m .entry)) k (now (v .entry)))) (now (m .entry))) ⌝ }
+{
+    if k == table::COMMIT {
+        return put_commit(m, v);
+    }
+    if table::spared(profile, k) == 0 {
+        return put_row(m, k, v);
+    }
+    if v.len() != 2 {
+        return false;
+    }
+    let full = [0, 0, v[0], v[1]];
+    put_row(m, k, &full)
+}
+
+// Whether a set of so many octets has a record in its reply (RULES 24.6).
+fn sendable(v: &[u8], profile: u8) -> bool
+    ensures { λ r. ⌜ r ≡ sendable profile (now (v .entry)) ⌝ }
+{
+    !(profile == wire::RELEASE_16) | (v.len() <= wire::SHORT_MOST)
+}
+
 // What stands for a cause where a set succeeds.
 const NO_CAUSE: u8 = 0;
 
 // A set: its cause, or none where it succeeds.
-fn set(m: &mut [u8], name: usize, v: &[u8]) -> u8
+fn set(m: &mut [u8], name: usize, v: &[u8], profile: u8) -> u8
     requires { ⌜ sound (now m) ≡ true ⌝ }
-    ensures { λ r. ⌜ (r ≡ firstFailed (setChecks (now (m .entry)) name (now (v .entry)))) × (now (m .exit) ≡ setMemory (now (m .entry)) name (now (v .entry))) ⌝ }
+    ensures { λ r. ⌜ (r ≡ firstFailed (setChecks profile (now (m .entry)) name (now (v .entry)))) × (now (m .exit) ≡ setMemory profile (now (m .entry)) name (now (v .entry))) ⌝ }
 {
     let k = table::place_of(name);
-    if table::ENTRY_COUNT <= k {
+    if !table::lists(profile, k) {
         return wire::CAUSE_NOT_SUPPORTED;
     }
     let row = table::row_at(k);
@@ -93,45 +118,48 @@ fn set(m: &mut [u8], name: usize, v: &[u8]) -> u8
     if !table::by_controller(owner) {
         return wire::CAUSE_PROTOCOL_ERROR;
     }
-    if !put_value(m, k, v) {
+    if !sendable(v, profile) {
+        return wire::CAUSE_PROTOCOL_ERROR;
+    }
+    if !put_value(m, k, v, profile) {
         return wire::CAUSE_INVALID_VALUE;
     }
     NO_CAUSE
 }
 
 // The mark set; nothing on an unlisted name.
-fn subscribe(m: &mut [u8], name: usize)
+fn subscribe(m: &mut [u8], name: usize, profile: u8)
     requires { ⌜ length (now m) ≡ memoryLength ⌝ }
-    ensures { λ _. ⌜ now (m .exit) ≡ subscribeMemory (now (m .entry)) name ⌝ }
+    ensures { λ _. ⌜ now (m .exit) ≡ subscribeMemory profile (now (m .entry)) name ⌝ }
 {
     let k = table::place_of(name);
-    if k < table::ENTRY_COUNT {
+    if table::lists(profile, k) {
         memory::subscribe(m, k);
     }
 }
 
 // All marks cleared; nothing on an unlisted name.
-fn unsubscribe(m: &mut [u8], name: usize)
+fn unsubscribe(m: &mut [u8], name: usize, profile: u8)
     requires { ⌜ length (now m) ≡ memoryLength ⌝ }
-    ensures { λ _. ⌜ now (m .exit) ≡ unsubscribeMemory (now (m .entry)) name ⌝ }
+    ensures { λ _. ⌜ now (m .exit) ≡ unsubscribeMemory profile (now (m .entry)) name ⌝ }
 {
     let k = table::place_of(name);
-    if k < table::ENTRY_COUNT {
+    if table::lists(profile, k) {
         memory::unsubscribe(m, k);
     }
 }
 
 // An operation of a list carried out.
-pub fn carry_out(m: &mut [u8], list: &[u8], op: Op) -> Answer
+pub fn carry_out(m: &mut [u8], list: &[u8], op: Op, profile: u8) -> Answer
     requires { ⌜ (sound (now m) ≡ true) × Inside (length (now list)) op ⌝ }
-    ensures { λ _. ⌜ now (m .exit) ≡ step (now (m .entry)) (opOf (now (list .entry)) op) ⌝ }
-    ensures { λ r. ⌜ r ≡ told (answer (now (m .entry)) (opOf (now (list .entry)) op)) ⌝ }
+    ensures { λ _. ⌜ now (m .exit) ≡ step profile (now (m .entry)) (opOf (now (list .entry)) op) ⌝ }
+    ensures { λ r. ⌜ r ≡ told (answer profile (now (m .entry)) (opOf (now (list .entry)) op)) ⌝ }
 {
     match op {
         Op::Capabilities => Answer::Names,
-        Op::Read(name) => read(m, name),
+        Op::Read(name) => read(m, name, profile),
         Op::Set(name, from, size) => {
-            let cause = set(m, name, &list[from..from + size]);
+            let cause = set(m, name, &list[from..from + size], profile);
             if cause == NO_CAUSE {
                 Answer::Update
             } else {
@@ -139,11 +167,11 @@ pub fn carry_out(m: &mut [u8], list: &[u8], op: Op) -> Answer
             }
         }
         Op::Subscribe(name) => {
-            subscribe(m, name);
+            subscribe(m, name, profile);
             Answer::Silent
         }
         Op::Unsubscribe(name) => {
-            unsubscribe(m, name);
+            unsubscribe(m, name, profile);
             Answer::Silent
         }
         Op::SelectiveRead(_, _, _) => Answer::ReadError(wire::CAUSE_PROTOCOL_ERROR),

@@ -6,7 +6,7 @@ use mathlib.Core.Path.{_≡_, refl, sym, ap, _∙_}
 use mathlib.Core.Logic.{_≢_}
 use mathlib.Core.List.{List}
 use Rattle.meaning.specs.Calls.{Outcome, operations}
-use Rattle.meaning.specs.FormB.{behind, message}
+use Rattle.meaning.specs.FormB.{profileOf, behind, message}
 use Rattle.meaning.proofs.Lists.{Octets}
 use Rattle.meaning.proofs.Breaks.{Breaks}
 use Rattle.meaning.proofs.Positions.{message-breaks}
@@ -16,11 +16,11 @@ use Rattle.endpoint.specs.Outcomes.{numberOf, positionOf}
 use Rattle.endpoint.proofs.OneOutcome.{Seen, Allows}
 
 pub message-breaks-reached : (b s room : List ℕ) (x : Seen) → Octets s → Allows (message b s room) x → numberOf (x .outcome) ≡ 6
-    → Breaks (operations s) (positionOf (x .outcome))
+    → Breaks (profileOf b) (operations s) (positionOf (x .outcome))
 unfolding gives givesLent asksForm
 message-breaks-reached b s room x o g n =
     let e = not-1-formed b (takeMessage s room) refl (λ k. absurd (omega (arith, n, g .number, k))) .1 in
-    rw (g .position, e) (message-breaks (behind b) s room o (sym (ap (λ (r : Outcome). r .number) e) ∙ sym (g .number) ∙ n))
+    rw (g .position, e) (message-breaks (profileOf b) (behind b) s room o (sym (ap (λ (r : Outcome). r .number) e) ∙ sym (g .number) ∙ n))
 
 pub message-nowhere-reached : (b s room : List ℕ) (x : Seen) → Allows (message b s room) x → numberOf (x .outcome) ≢ 6 → positionOf (x .outcome) ≡ 0
 unfolding givesLent

@@ -12,7 +12,8 @@ use borrow.Author.Tests.{le-leb, lt-leb}
 use Rattle.meaning.specs.Octets.{nonempty, octet, at16, part, implies, every}
 use Rattle.meaning.specs.Checks.{firstFailed, whenPassed}
 use Rattle.meaning.specs.Table.{place, entryCount}
-use Rattle.meaning.specs.Memory.{waiting, expiries, setTimer, sound}
+use Rattle.meaning.specs.Memory.{waiting, expiries, setTimer}
+use Rattle.meaning.specs.Profile.{soundIn}
 use Rattle.meaning.specs.Operation.{Op, parse, isSome, orNone, breakOf}
 use Rattle.meaning.specs.Step.{after}
 use Rattle.meaning.specs.Reply.{complete}
@@ -23,7 +24,7 @@ use Rattle.meaning.proofs.Kept.{idled}
 use Rattle.meaning.proofs.Numbers.{Taken, Measured, length-right}
 use Rattle.octets.proofs.Splices.{part-is}
 use Rattle.endpoint.specs.declared.Outcome.{Outcome}
-use Rattle.endpoint.specs.declared.Outcome.the-variants.{Done, MemoryUnsound, MessageEmpty, MessageTooLong, TypeUnknown, LengthWrong, OperationMalformed, ReplyDoesNotFit, Idle, NothingPending, AlreadyWaiting, NotificationRoomTooSmall, NotPermitted, SendAgain, GivenUp}
+use Rattle.endpoint.specs.declared.Outcome.the-variants.{Done, MemoryUnsound, MessageEmpty, MessageTooLong, TypeUnknown, LengthWrong, OperationMalformed, ReplyDoesNotFit, Idle, NothingPending, AlreadyWaiting, NotificationRoomTooSmall, NotPermitted, ProfileUnknown, SendAgain, GivenUp}
 use Rattle.endpoint.specs.Outcomes.{numberOf, lengthOf, positionOf, Gives, reply, command, acknowledgement}
 use Rattle.endpoint.proofs.Outcome.{the-type}
 
@@ -47,13 +48,13 @@ gives-left m n r e a b p c = rw e (record { number = a; written = b; position = 
 
 -- ---- a whole list of operations
 
-module _ (m list room : List ℕ) where
-  pub command-fits : fits (length room) (carriedOut m (orNone (parse list))) ≡ true
-      → command m list room ≡ done (complete (records m (orNone (parse list)))) (after m (orNone (parse list))) room
+module _ (p : ℕ) (m list room : List ℕ) where
+  pub command-fits : fits (length room) (carriedOut p m (orNone (parse p list))) ≡ true
+      → command p m list room ≡ done (complete p (records p m (orNone (parse p list)))) (after p m (orNone (parse p list))) room
   unfolding command reply call firstFailed whenPassed carriedOut
   command-fits e = rw e
 
-  pub command-7 : fits (length room) (carriedOut m (orNone (parse list))) ≡ false → command m list room ≡ numberOnly 7 m room
+  pub command-7 : fits (length room) (carriedOut p m (orNone (parse p list))) ≡ false → command p m list room ≡ numberOnly 7 m room
   unfolding command reply call firstFailed whenPassed
   command-7 e = rw e
 
@@ -84,40 +85,40 @@ pub not-whole : (p : Option (List Op)) → isSome p ≡ false → p ≡ none
 not-whole none e = refl
 not-whole (some os) e = absurd (false≢true (sym e))
 
-module _ (m s room : List ℕ) where
-  pub message-acknowledgement : Taken m s → octet s 0 ≡ 4 → message m s room ≡ acknowledgement m room
+module _ (p : ℕ) (m s room : List ℕ) where
+  pub message-acknowledgement : Taken p m s → octet s 0 ≡ 4 → message p m s room ≡ acknowledgement m room
   unfolding message messageChecks acknowledgement call firstFailed isCommand isAcknowledgement implies handled
   message-acknowledgement t e =
       simp (t .isSound, le-leb 1 (length s) (t .nonzero), le-leb (length s) 2048 (t .short), e)
-      (unlocated (breakOf (operations s)) true (waiting m) (fits (length room) (acknowledged m)) (acknowledged m .reply) (acknowledged m .memory) m room)
+      (unlocated (breakOf p (operations s)) true (waiting m) (fits (length room) (acknowledged m)) (acknowledged m .reply) (acknowledged m .memory) m room)
 
-  pub message-command : Measured m s → isSome (parse (operations s)) ≡ true → message m s room ≡ command m (operations s) room
+  pub message-command : Measured p m s → isSome (parse p (operations s)) ≡ true → message p m s room ≡ command p m (operations s) room
   unfolding message messageChecks command reply call firstFailed isCommand isAcknowledgement implies handled opsOf
   message-command l w =
-      let d = carriedOut m (orNone (parse (operations s))) in
-      simp (l .taken .isSound, le-leb 1 (length s) (l .taken .nonzero), le-leb (length s) 2048 (l .taken .short), l .type, length-right m s l, w)
-      (unlocated (breakOf (operations s)) true true (fits (length room) d) (d .reply) (d .memory) m room)
+      let d = carriedOut p m (orNone (parse p (operations s))) in
+      simp (l .taken .isSound, le-leb 1 (length s) (l .taken .nonzero), le-leb (length s) 2048 (l .taken .short), l .type, length-right p m s l, w)
+      (unlocated (breakOf p (operations s)) true true (fits (length room) d) (d .reply) (d .memory) m room)
 
 -- ---- the other calls, where their checks have passed
 
-pub local-does : (m : List ℕ) (n k : ℕ) (v : List ℕ) → k ≡ place n → sound m ≡ true → localPermitted n v ≡ true → localValue m n v ≡ numberOnly 0 (localMemory m k v) []
+pub local-does : (p : ℕ) (m : List ℕ) (n k : ℕ) (v : List ℕ) → k ≡ place n → soundIn p m ≡ true → localPermitted n v ≡ true → localValue p m n v ≡ numberOnly 0 (localMemory m k v) []
 unfolding localValue localChecks call firstFailed whenPassed
-local-does m n k v e s p = rw (e, s, p)
+local-does p m n k v e s q = rw (e, s, q)
 
 -- one expiry more, with the count as the memory says it
 pub counted-on : (m : List ℕ) {n : ℕ} {m′ : List ℕ} → n ≡ expiries m → m′ ≡ setTimer m 1 (n + 1) → m′ ≡ setTimer m 1 (expiries m + 1)
 counted-on m e f = f ∙ ap (λ (k : ℕ). setTimer m 1 (k + 1)) e
 
-module _ (m room : List ℕ) (s : sound m ≡ true) (h : 1600 ≤ length room) (w : waiting m ≡ false) where
-  pub build-nothing : nonempty (reports m entryCount) ≡ false → build m room ≡ numberOnly 9 m room
+module _ (p : ℕ) (m room : List ℕ) (s : soundIn p m ≡ true) (h : 1600 ≤ length room) (w : waiting m ≡ false) where
+  pub build-nothing : nonempty (reports p m entryCount) ≡ false → build p m room ≡ numberOnly 9 m room
   unfolding build buildChecks call firstFailed whenPassed
   build-nothing n = simp (s, le-leb 1600 (length room) h, w, n)
 
 -- ---- what is said of an outcome
 
-pub nothing-written : (r : Outcome) → OneOf (1 ∷ 2 ∷ 3 ∷ 4 ∷ 5 ∷ 6 ∷ 7 ∷ 8 ∷ 9 ∷ 10 ∷ 11 ∷ 12 ∷ 13 ∷ 14 ∷ []) (tagOf the-type r) → lengthOf r ≡ 0
+pub nothing-written : (r : Outcome) → OneOf (1 ∷ 2 ∷ 3 ∷ 4 ∷ 5 ∷ 6 ∷ 7 ∷ 8 ∷ 9 ∷ 10 ∷ 11 ∷ 12 ∷ 13 ∷ 14 ∷ 15 ∷ []) (tagOf the-type r) → lengthOf r ≡ 0
 unfolding lengthOf
-nothing-written (Done n) t = absurd (miss (1 ∷ 2 ∷ 3 ∷ 4 ∷ 5 ∷ 6 ∷ 7 ∷ 8 ∷ 9 ∷ 10 ∷ 11 ∷ 12 ∷ 13 ∷ 14 ∷ []) 0 tt t)
+nothing-written (Done n) t = absurd (miss (1 ∷ 2 ∷ 3 ∷ 4 ∷ 5 ∷ 6 ∷ 7 ∷ 8 ∷ 9 ∷ 10 ∷ 11 ∷ 12 ∷ 13 ∷ 14 ∷ 15 ∷ []) 0 tt t)
 nothing-written MemoryUnsound t = refl
 nothing-written MessageEmpty t = refl
 nothing-written MessageTooLong t = refl
@@ -130,10 +131,11 @@ nothing-written NothingPending t = refl
 nothing-written AlreadyWaiting t = refl
 nothing-written NotificationRoomTooSmall t = refl
 nothing-written NotPermitted t = refl
+nothing-written ProfileUnknown t = refl
 nothing-written SendAgain t = refl
 nothing-written GivenUp t = refl
 
-pub nowhere : (r : Outcome) → OneOf (0 ∷ 1 ∷ 2 ∷ 3 ∷ 4 ∷ 5 ∷ 7 ∷ 8 ∷ 9 ∷ 10 ∷ 11 ∷ 12 ∷ 13 ∷ 14 ∷ []) (tagOf the-type r) → positionOf r ≡ 0
+pub nowhere : (r : Outcome) → OneOf (0 ∷ 1 ∷ 2 ∷ 3 ∷ 4 ∷ 5 ∷ 7 ∷ 8 ∷ 9 ∷ 10 ∷ 11 ∷ 12 ∷ 13 ∷ 14 ∷ 15 ∷ []) (tagOf the-type r) → positionOf r ≡ 0
 unfolding positionOf
 nowhere (Done n) t = refl
 nowhere MemoryUnsound t = refl
@@ -141,13 +143,14 @@ nowhere MessageEmpty t = refl
 nowhere MessageTooLong t = refl
 nowhere TypeUnknown t = refl
 nowhere LengthWrong t = refl
-nowhere (OperationMalformed p) t = absurd (miss (0 ∷ 1 ∷ 2 ∷ 3 ∷ 4 ∷ 5 ∷ 7 ∷ 8 ∷ 9 ∷ 10 ∷ 11 ∷ 12 ∷ 13 ∷ 14 ∷ []) 6 tt t)
+nowhere (OperationMalformed p) t = absurd (miss (0 ∷ 1 ∷ 2 ∷ 3 ∷ 4 ∷ 5 ∷ 7 ∷ 8 ∷ 9 ∷ 10 ∷ 11 ∷ 12 ∷ 13 ∷ 14 ∷ 15 ∷ []) 6 tt t)
 nowhere ReplyDoesNotFit t = refl
 nowhere Idle t = refl
 nowhere NothingPending t = refl
 nowhere AlreadyWaiting t = refl
 nowhere NotificationRoomTooSmall t = refl
 nowhere NotPermitted t = refl
+nowhere ProfileUnknown t = refl
 nowhere SendAgain t = refl
 nowhere GivenUp t = refl
 

@@ -1,4 +1,4 @@
--- Memory in form B, lent on behind its first octet: a call gives what was given on the memory, with 02 ahead of what came back.
+-- Memory in form B, lent on behind its first octet: a call gives what was given on the memory, with its profile ahead of what came back.
 use Prim.Native.Nat.{ℕ, _+_}
 use native.Mathlib.Omega.{arith}
 use mathlib.Core.Path.{_≡_, refl, ap, _∙_}
@@ -9,10 +9,10 @@ use lib.Seq.{take-all}
 use borrow.Rule.Slice.PartMut.{putMid}
 use Rattle.meaning.specs.Octets.{octet, splice}
 use Rattle.meaning.specs.Table.{memoryLength}
-use Rattle.meaning.specs.Memory.{sound}
-use Rattle.meaning.specs.FormB.{ahead, behind, soundFormB}
+use Rattle.meaning.specs.Profile.{soundIn}
+use Rattle.meaning.specs.FormB.{ahead, profileOf, behind, soundFormB}
 use Rattle.meaning.proofs.Sendings.{Call, gives}
-use Rattle.meaning.proofs.Formed.{sound-form, sound-opened, givesLent, asksForm, roomOf, unsound-1, sound-gives}
+use Rattle.meaning.proofs.Formed.{form-opened, sound-form, sound-opened, givesLent, asksForm, roomOf, unsound-1, sound-gives}
 use Rattle.octets.proofs.Splices.{lent-back}
 use Rattle.endpoint.specs.Outcomes.{Gives, numberOf, lengthOf, positionOf}
 use Rattle.endpoint.specs.declared.Outcome.{Outcome}
@@ -37,21 +37,19 @@ came-back (x ∷ m) m′ h l =
     ∙ ap (λ (t : List ℕ). x ∷ t) (append-nil m′)
 
 module _ (b : List ℕ) (e : soundFormB b ≡ true) where
-  pub rest-sound : sound (rest b) ≡ true
-  rest-sound = rw (rest-is b (sound-form b e .long)) (sound-opened b e .1)
+  pub form-long : length b ≡ 2101
+  form-long = form-opened b (sound-form b e) .long
 
-  memory-back : (m′ : List ℕ) → length m′ ≡ length (rest b) → putMid 1 2100 b m′ ≡ ahead m′
-  memory-back m′ l =
-      let f = sound-form b e in
-      came-back b m′ (f .long) l ∙ ap (λ (x : ℕ). x ∷ m′) (f .first)
+  pub rest-in : soundIn (profileOf b) (rest b) ≡ true
+  rest-in = rw (rest-is b form-long) (sound-opened b e .1)
 
   -- what a call gave on the memory that was lent on
-  pub gives-formed : (c : Call) (r : Outcome) (m′ room′ : List ℕ) → length m′ ≡ length (rest b) → Gives (gives (rest b) c) r m′ room′
+  pub gives-formed : (c : Call) (r : Outcome) (m′ room′ : List ℕ) → length m′ ≡ length (rest b) → Gives (gives (profileOf b) (rest b) c) r m′ room′
       → Gives (givesLent b c) r (putMid 1 2100 b m′) room′
   gives-formed c r m′ room′ l g =
-      let h : Gives (gives (behind b) c) r m′ room′ = rw (rest-is b (sound-form b e .long)) at g in
-      rw (sound-gives b c e, memory-back m′ l)
-      record { number = h .number; written = h .written; position = h .position; memoryIs = ap ahead (h .memoryIs); roomIs = h .roomIs }
+      let h : Gives (gives (profileOf b) (behind b) c) r m′ room′ = rw (rest-is b form-long) at g in
+      rw (sound-gives b c e, came-back b m′ form-long l)
+      record { number = h .number; written = h .written; position = h .position; memoryIs = ap (ahead (profileOf b)) (h .memoryIs); roomIs = h .roomIs }
 
 -- what is not sound in form B is refused with 1
 pub gives-unsound : (b : List ℕ) (c : Call) → asksForm c ≡ true → soundFormB b ≡ false → Gives (givesLent b c) MemoryUnsound b (roomOf c)

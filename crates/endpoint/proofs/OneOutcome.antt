@@ -13,7 +13,7 @@ use Rattle.meaning.proofs.Refused.{RoomAfter}
 use Rattle.meaning.proofs.Sendings.{takeMessage, buildIn}
 use Rattle.meaning.proofs.Formed.{givesLent, roomOf, lent-room}
 use Rattle.endpoint.specs.declared.Outcome.{Outcome}
-use Rattle.endpoint.specs.declared.Outcome.the-variants.{Done, MemoryUnsound, MessageEmpty, MessageTooLong, TypeUnknown, LengthWrong, OperationMalformed, ReplyDoesNotFit, Idle, NothingPending, AlreadyWaiting, NotificationRoomTooSmall, NotPermitted, SendAgain, GivenUp}
+use Rattle.endpoint.specs.declared.Outcome.the-variants.{Done, MemoryUnsound, MessageEmpty, MessageTooLong, TypeUnknown, LengthWrong, OperationMalformed, ReplyDoesNotFit, Idle, NothingPending, AlreadyWaiting, NotificationRoomTooSmall, NotPermitted, ProfileUnknown, SendAgain, GivenUp}
 use Rattle.endpoint.specs.Outcomes.{numberOf, lengthOf, positionOf, Gives}
 
 -- ---- what was written
@@ -55,7 +55,7 @@ refusals p =
     ∷ NotificationRoomTooSmall ∷ NotPermitted ∷ []
 
 outcomeOf : ℕ → ℕ → ℕ → Outcome
-outcomeOf k n p = cond (eqb k 20) SendAgain (getD (Done n ∷ refusals p) k GivenUp)
+outcomeOf k n p = cond (eqb k 18) ProfileUnknown (cond (eqb k 20) SendAgain (getD (Done n ∷ refusals p) k GivenUp))
 
 outcome-is : (r : Outcome) → outcomeOf (numberOf r) (lengthOf r) (positionOf r) ≡ r
 unfolding outcomeOf refusals numberOf lengthOf positionOf
@@ -72,6 +72,7 @@ outcome-is NothingPending = refl
 outcome-is AlreadyWaiting = refl
 outcome-is NotificationRoomTooSmall = refl
 outcome-is NotPermitted = refl
+outcome-is ProfileUnknown = refl
 outcome-is SendAgain = refl
 outcome-is GivenUp = refl
 
@@ -99,5 +100,5 @@ build-one b room = one-outcome (build b room)
 pub expiry-one : (b : List ℕ) (x y : Seen) → Allows (expiry b) x → Allows (expiry b) y → x ≡ y
 expiry-one b = one-outcome (expiry b)
 
-pub makeFresh-one : (b : List ℕ) (x y : Seen) → Allows (makeFresh b) x → Allows (makeFresh b) y → x ≡ y
-makeFresh-one b = one-outcome (makeFresh b)
+pub makeFresh-one : (b : List ℕ) (q : ℕ) (x y : Seen) → Allows (makeFresh b q) x → Allows (makeFresh b q) y → x ≡ y
+makeFresh-one b q = one-outcome (makeFresh b q)

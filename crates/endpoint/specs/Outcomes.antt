@@ -9,7 +9,7 @@ use Rattle.meaning.specs.Operation.{parse, orNone}
 use Rattle.meaning.specs.Calls.{Handled, done, call, carriedOut, acknowledged, fits}
 use Rattle.meaning.specs.Calls as calls
 use Rattle.endpoint.specs.declared.Outcome.{Outcome}
-use Rattle.endpoint.specs.declared.Outcome.the-variants.{Done, MemoryUnsound, MessageEmpty, MessageTooLong, TypeUnknown, LengthWrong, OperationMalformed, ReplyDoesNotFit, Idle, NothingPending, AlreadyWaiting, NotificationRoomTooSmall, NotPermitted, SendAgain, GivenUp}
+use Rattle.endpoint.specs.declared.Outcome.the-variants.{Done, MemoryUnsound, MessageEmpty, MessageTooLong, TypeUnknown, LengthWrong, OperationMalformed, ReplyDoesNotFit, Idle, NothingPending, AlreadyWaiting, NotificationRoomTooSmall, NotPermitted, ProfileUnknown, SendAgain, GivenUp}
 
 unfoldable pub numberOf : Outcome → ℕ
 numberOf (Done n) = 0
@@ -25,6 +25,7 @@ numberOf NothingPending = 9
 numberOf AlreadyWaiting = 10
 numberOf NotificationRoomTooSmall = 11
 numberOf NotPermitted = 12
+numberOf ProfileUnknown = 18
 numberOf SendAgain = 20
 numberOf GivenUp = 21
 
@@ -42,6 +43,7 @@ lengthOf NothingPending = 0
 lengthOf AlreadyWaiting = 0
 lengthOf NotificationRoomTooSmall = 0
 lengthOf NotPermitted = 0
+lengthOf ProfileUnknown = 0
 lengthOf SendAgain = 0
 lengthOf GivenUp = 0
 
@@ -59,6 +61,7 @@ positionOf NothingPending = 0
 positionOf AlreadyWaiting = 0
 positionOf NotificationRoomTooSmall = 0
 positionOf NotPermitted = 0
+positionOf ProfileUnknown = 0
 positionOf SendAgain = 0
 positionOf GivenUp = 0
 
@@ -76,8 +79,8 @@ unfoldable pub reply : Handled → List ℕ → List ℕ → calls.Outcome
 reply d m room = call (check 7 (fits (length room) d) passed) (done (d .reply) (d .memory) room) m room
 
 -- a whole list of operations
-unfoldable pub command : List ℕ → List ℕ → List ℕ → calls.Outcome
-command m list room = reply (carriedOut m (orNone (parse list))) m room
+unfoldable pub command : (p : ℕ) → List ℕ → List ℕ → List ℕ → calls.Outcome
+command p m list room = reply (carriedOut p m (orNone (parse p list))) m room
 
 -- an acknowledgement
 unfoldable pub acknowledgement : List ℕ → List ℕ → calls.Outcome

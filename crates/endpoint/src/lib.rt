@@ -4,7 +4,8 @@
 // room as well. Nothing else is kept between calls, so whoever saves those octets has saved the port. Any lengths and any octets
 // may be lent, in any order of calls: each call ends, and one that refuses changes no lent octet.
 //
-//   make_fresh    before the first use, and to begin anew: it asks for the length alone, so it also mends unsound memory
+//   make_fresh    before the first use, and to begin anew, in the profile that the port's controllers speak: RELEASE_18 or
+//                 RELEASE_16. It asks nothing of what the memory holds, so it also mends unsound memory
 //   message       for each message that comes; a room of 4,096 octets takes every reply, which is then to be sent
 //   local_value   when the port learns a value of its own, or learns that it has none
 //   build         when there may be something to report; a room of 1,600 octets always serves. What it writes is to be
@@ -21,8 +22,9 @@
 // No call asks for anything: none has a `requires`. Each contract says by a definition of `meaning` under the call's name
 // what is answered and what every lent octet holds afterwards, and allows one outcome alone (`one-outcome`, in `OneOutcome`).
 //
-// Each call tests what it is lent and lends the memory behind the first octet on, to a function that knows of no form.
-ghost use Prim.Native.Nat.{_≤_};
+// Each call tests what it is lent and lends the memory behind the first octet on, to a function that knows of no form, with the
+// profile that this octet is where it decides something.
+ghost use Prim.Native.Nat.{ℕ, _≤_};
 ghost use mathlib.Core.Path.{_≡_};
 ghost use mathlib.Core.Bool.{true};
 ghost use mathlib.Core.List.{[]};
@@ -30,6 +32,7 @@ ghost use lib.ListN.{length};
 ghost use Rattle.meaning.specs.Octets.{octet};
 ghost use Rattle.meaning.specs.Wire.{typeCommand, messageMost};
 ghost use Rattle.meaning.specs.Memory.{sound};
+ghost use Rattle.meaning.specs.Profile.{soundIn};
 ghost use Rattle.meaning.specs.Operation.{parse, isSome};
 ghost use Rattle.meaning.specs.Delay.{delay};
 ghost use Rattle.meaning.specs.Calls.{message, localValue, build, expiry};
@@ -51,6 +54,13 @@ pub const NOTIFICATION_ROOM: usize = wire::NOTIFICATION_ROOM;
 
 pub const NOTIFICATION_MOST: usize = wire::NOTIFICATION_MOST;
 
+// The profiles, of which a host names one when memory is made fresh, and where it stands then.
+pub const RELEASE_18: u8 = wire::RELEASE_18;
+
+pub const RELEASE_16: u8 = wire::RELEASE_16;
+
+pub const PROFILE_AT: usize = table::PROFILE_AT;
+
 // Where the cell of the running block stands in what a host keeps.
 const RUNNING_CELL_AT: usize = table::BEHIND_AT + table::CELL_LENGTH * table::COMMIT;
 
@@ -62,7 +72,7 @@ pub const RUNNING_LENGTH_AT: usize = RUNNING_CELL_AT + table::SIZE_AT;
 
 pub const RUNNING_AT: usize = table::BEHIND_AT + table::RUNNING_AT;
 
-// What a call answers: done, with the length of what it wrote; twelve reasons why nothing was done, a malformed operation
+// What a call answers: done, with the length of what it wrote; thirteen reasons why nothing was done, a malformed operation
 // with its position in the message; that a waiting notification is to be sent again, or has been given up.
 pub enum Outcome {
     Done(usize),
@@ -78,6 +88,7 @@ pub enum Outcome {
     AlreadyWaiting,
     NotificationRoomTooSmall,
     NotPermitted,
+    ProfileUnknown,
     SendAgain,
     GivenUp,
 }
@@ -100,6 +111,7 @@ pub fn number(outcome: Outcome) -> usize
         Outcome::AlreadyWaiting => 10,
         Outcome::NotificationRoomTooSmall => 11,
         Outcome::NotPermitted => 12,
+        Outcome::ProfileUnknown => 18,
         Outcome::SendAgain => 20,
         Outcome::GivenUp => 21,
     }
@@ -142,26 +154,26 @@ fn acknowledge(memory: &mut [u8], room: &mut [u8]) -> Outcome
 }
 
 // A whole list of operations, carried out on a working copy, which is written back once the reply fits (RULES 10.13, 10.14).
-fn carry_out(memory: &mut [u8], list: &[u8], room: &mut [u8]) -> Outcome
-    requires { ⌜ (sound (now memory) ≡ true) × (isSome (parse (now list)) ≡ true) × (length (now list) ≤ messageMost) ⌝ }
-    ensures { λ r. ⌜ Gives (command (now (memory .entry)) (now (list .entry)) (now (room .entry))) r (now (memory .exit)) (now (room .exit)) ⌝ }
+fn carry_out(memory: &mut [u8], list: &[u8], room: &mut [u8], profile: u8) -> Outcome
+    requires { ⌜ (sound (now memory) ≡ true) × (isSome (parse profile (now list)) ≡ true) × (length (now list) ≤ messageMost) ⌝ }
+    ensures { λ r. ⌜ Gives (command profile (now (memory .entry)) (now (list .entry)) (now (room .entry))) r (now (memory .exit)) (now (room .exit)) ⌝ }
 {
     let mut copy = [0u8; table::MEMORY_LENGTH];
-    let taken = tally::take(memory, list, &mut copy);
+    let taken = tally::take(memory, list, &mut copy, profile);
     let t = taken.tally;
-    let n = tally::reply_length(t);
+    let n = tally::reply_length(t, profile);
     if !tally::fits(t, n, room.len()) {
         return Outcome::ReplyDoesNotFit;
     }
-    reply::write(memory, list, t, taken.changed, &mut copy, room);
+    reply::write(memory, list, t, taken.changed, &mut copy, room, profile);
     octets::renew(memory, &copy, taken.changed);
     Outcome::Done(n)
 }
 
 // A message of type 01: its length, and whether every operation is whole.
-fn take_command(memory: &mut [u8], sent: &[u8], room: &mut [u8]) -> Outcome
-    requires { ⌜ (sound (now memory) ≡ true) × (1 ≤ length (now sent)) × (length (now sent) ≤ messageMost) × (octet (now sent) 0 ≡ typeCommand) ⌝ }
-    ensures { λ r. ⌜ Gives (message (now (memory .entry)) (now (sent .entry)) (now (room .entry))) r (now (memory .exit)) (now (room .exit)) ⌝ }
+fn take_command(memory: &mut [u8], sent: &[u8], room: &mut [u8], profile: u8) -> Outcome
+    requires { ⌜ (soundIn profile (now memory) ≡ true) × (1 ≤ length (now sent)) × (length (now sent) ≤ messageMost) × (octet (now sent) 0 ≡ typeCommand) ⌝ }
+    ensures { λ r. ⌜ Gives (message profile (now (memory .entry)) (now (sent .entry)) (now (room .entry))) r (now (memory .exit)) (now (room .exit)) ⌝ }
 {
     if sent.len() < wire::COMMAND_HEAD {
         return Outcome::LengthWrong;
@@ -174,16 +186,16 @@ fn take_command(memory: &mut [u8], sent: &[u8], room: &mut [u8]) -> Outcome
         return Outcome::LengthWrong;
     }
     let list = &sent[wire::COMMAND_HEAD..wire::COMMAND_HEAD + n];
-    match operation::whole(list) {
-        Wholeness::Whole => carry_out(memory, list, room),
+    match operation::whole(list, profile) {
+        Wholeness::Whole => carry_out(memory, list, room, profile),
         Wholeness::Broken(position) => Outcome::OperationMalformed(position),
     }
 }
 
 // A message: a command or an acknowledgement.
-fn take_message(memory: &mut [u8], sent: &[u8], room: &mut [u8]) -> Outcome
-    requires { ⌜ sound (now memory) ≡ true ⌝ }
-    ensures { λ r. ⌜ Gives (message (now (memory .entry)) (now (sent .entry)) (now (room .entry))) r (now (memory .exit)) (now (room .exit)) ⌝ }
+fn take_message(memory: &mut [u8], sent: &[u8], room: &mut [u8], profile: u8) -> Outcome
+    requires { ⌜ soundIn profile (now memory) ≡ true ⌝ }
+    ensures { λ r. ⌜ Gives (message profile (now (memory .entry)) (now (sent .entry)) (now (room .entry))) r (now (memory .exit)) (now (room .exit)) ⌝ }
 {
     if sent.len() < 1 {
         return Outcome::MessageEmpty;
@@ -192,16 +204,16 @@ fn take_message(memory: &mut [u8], sent: &[u8], room: &mut [u8]) -> Outcome
         return Outcome::MessageTooLong;
     }
     match sent[0] {
-        wire::TYPE_COMMAND => take_command(memory, sent, room),
+        wire::TYPE_COMMAND => take_command(memory, sent, room, profile),
         wire::TYPE_NOTIFY_ACK => acknowledge(memory, room),
         _ => Outcome::TypeUnknown,
     }
 }
 
-// A local value.
+// A local value, which is the same in each profile.
 fn take_value(memory: &mut [u8], name: usize, value: &[u8]) -> Outcome
     requires { ⌜ sound (now memory) ≡ true ⌝ }
-    ensures { λ r. ⌜ Gives (localValue (now (memory .entry)) name (now (value .entry))) r (now (memory .exit)) [] ⌝ }
+    ensures { λ r. ⌜ ((p : ℕ) → soundIn p (now (memory .entry)) ≡ true → Gives (localValue p (now (memory .entry)) name (now (value .entry))) r (now (memory .exit)) []) ⌝ }
 {
     if !local::permitted(name, value) {
         return Outcome::NotPermitted;
@@ -211,9 +223,9 @@ fn take_value(memory: &mut [u8], name: usize, value: &[u8]) -> Outcome
 }
 
 // A notification of all that is pending.
-fn build_due(memory: &mut [u8], room: &mut [u8]) -> Outcome
-    requires { ⌜ sound (now memory) ≡ true ⌝ }
-    ensures { λ r. ⌜ Gives (build (now (memory .entry)) (now (room .entry))) r (now (memory .exit)) (now (room .exit)) ⌝ }
+fn build_due(memory: &mut [u8], room: &mut [u8], profile: u8) -> Outcome
+    requires { ⌜ soundIn profile (now memory) ≡ true ⌝ }
+    ensures { λ r. ⌜ Gives (build profile (now (memory .entry)) (now (room .entry))) r (now (memory .exit)) (now (room .exit)) ⌝ }
 {
     if room.len() < NOTIFICATION_ROOM {
         return Outcome::NotificationRoomTooSmall;
@@ -225,15 +237,15 @@ fn build_due(memory: &mut [u8], room: &mut [u8]) -> Outcome
     if due.values + due.absent == 0 {
         return Outcome::NothingPending;
     }
-    let end = notification::write(memory, due, room);
+    let end = notification::write(memory, due, room, profile);
     notification::begin_wait(memory);
     Outcome::Done(end)
 }
 
-// A timer expiry.
+// A timer expiry, which is the same in each profile.
 fn take_expiry(memory: &mut [u8]) -> Outcome
     requires { ⌜ sound (now memory) ≡ true ⌝ }
-    ensures { λ r. ⌜ Gives (expiry (now (memory .entry))) r (now (memory .exit)) [] ⌝ }
+    ensures { λ r. ⌜ ((p : ℕ) → soundIn p (now (memory .entry)) ≡ true → Gives (expiry p (now (memory .entry))) r (now (memory .exit)) []) ⌝ }
 {
     if !memory::waiting(memory) {
         return Outcome::Idle;
@@ -254,10 +266,12 @@ pub fn message(memory: &mut [u8], sent: &[u8], room: &mut [u8]) -> Outcome
     if !soundness::sound_form_b(memory) {
         return Outcome::MemoryUnsound;
     }
+    let profile = memory[PROFILE_AT];
     take_message(
         &mut memory[table::BEHIND_AT..table::FORM_LENGTH],
         sent,
         room,
+        profile,
     )
 }
 
@@ -282,7 +296,12 @@ pub fn build(memory: &mut [u8], room: &mut [u8]) -> Outcome
     if !soundness::sound_form_b(memory) {
         return Outcome::MemoryUnsound;
     }
-    build_due(&mut memory[table::BEHIND_AT..table::FORM_LENGTH], room)
+    let profile = memory[PROFILE_AT];
+    build_due(
+        &mut memory[table::BEHIND_AT..table::FORM_LENGTH],
+        room,
+        profile,
+    )
 }
 
 // A timer expiry taken, of the timer that runs from the sending of a notification.
@@ -295,14 +314,17 @@ pub fn expiry(memory: &mut [u8]) -> Outcome
     take_expiry(&mut memory[table::BEHIND_AT..table::FORM_LENGTH])
 }
 
-// Memory made fresh, whatever it holds.
-pub fn make_fresh(memory: &mut [u8]) -> Outcome
-    ensures { λ r. ⌜ Gives (formB.makeFresh (now (memory .entry))) r (now (memory .exit)) [] ⌝ }
+// Memory made fresh in a profile, whatever it holds.
+pub fn make_fresh(memory: &mut [u8], profile: u8) -> Outcome
+    ensures { λ r. ⌜ Gives (formB.makeFresh (now (memory .entry)) profile) r (now (memory .exit)) [] ⌝ }
 {
     if memory.len() != MEMORY_LENGTH {
         return Outcome::MemoryUnsound;
     }
-    memory[table::FORM_AT] = table::FORM_B;
+    if !table::is_profile(profile) {
+        return Outcome::ProfileUnknown;
+    }
+    memory[PROFILE_AT] = profile;
     memory::make_fresh(&mut memory[table::BEHIND_AT..table::FORM_LENGTH]);
     Outcome::Done(0)
 }

@@ -1,9 +1,10 @@
--- What is asked of a block with form and fit, and of an instant by its sign: what a test against 0 leaves, and the number that a cast gives.
+-- What is asked of sound memory, of a block with form and fit, and of an instant by its sign: what a test against 0 leaves, and the number
+-- that a cast gives.
 use Prim.Native.Nat.{ℕ, _-_, _/_, _%_, _≤_}
 use native.Mathlib.Nat.{lt-of-le-of-lt}
 use native.Mathlib.Omega.{arith}
 use mathlib.Core.Path.{_≡_, refl, subst}
-use mathlib.Core.Bool.{true, false}
+use mathlib.Core.Bool.{Bool, true, false}
 use mathlib.Core.List.{List}
 use lib.ListN.{length}
 use lib.Dec.{T, lit<}
@@ -12,11 +13,27 @@ use lib.Signed.{ltZ, nonNeg, natAbs-le}
 use borrow.Author.Tests.{ltb-true}
 use mir.Syntax.{w64}
 use mir.Val.{Fits, SFits}
+use Rattle.meaning.specs.Table.{commit}
 use Rattle.meaning.specs.Block.{ratioOk, cycle, listOf, ratioOf, formAndFit}
-use Rattle.meaning.specs.Gates.{notStarted, entryAt, gatesOf}
+use Rattle.meaning.specs.Memory.{present}
+use Rattle.meaning.specs.Profile.{soundIn}
+use Rattle.meaning.specs.Gates.{notStarted, entryAt, gatesOf, gates}
 use Rattle.meaning.proofs.Tests.{every-at}
 use Rattle.meaning.proofs.Blocks.{form-spelt, list-length, block-cycle}
 use Rattle.meaning.proofs.Holding.{cycle-some}
+use Rattle.meaning.proofs.Driven.{gates-idle, gates-running}
+use Rattle.gates.specs.Answers.{running}
+
+-- ---- memory
+
+-- the profile decides whether it is sound, and nothing else
+pub gates-asked : (p : ℕ) (m : List ℕ) (z : ℤ) → soundIn p m ≡ true → gates p m z ≡ running m z
+unfolding running
+gates-asked p m z s = go (present m commit) refl
+  where
+    go : (b : Bool) → present m commit ≡ b → gates p m z ≡ running m z
+    go true e = rw e (gates-running p m z s e)
+    go false e = rw e (gates-idle p m z s e)
 
 -- ---- a block
 

@@ -1,6 +1,11 @@
--- What each case of an answer says: the number where it is refused, else its values.
+-- What each case of an answer says: the number where it is refused, else its values; and what is answered once memory is known to be sound.
 use Prim.Native.Nat.{ℕ}
-use Rattle.meaning.specs.Gates.{refused, notStarted, opens}
+use mathlib.Core.Bool.{cond}
+use mathlib.Core.List.{List}
+use lib.IntN.{ℤ}
+use Rattle.meaning.specs.Table.{commit}
+use Rattle.meaning.specs.Memory.{present, body}
+use Rattle.meaning.specs.Gates.{refused, notStarted, opens, gatesOf}
 use Rattle.meaning.specs.Gates as meaning
 use Rattle.gates.specs.declared.Refusal.{Refusal}
 use Rattle.gates.specs.declared.Refusal.the-variants.{MemoryUnsound, NothingRuns}
@@ -16,3 +21,7 @@ unfoldable pub answerOf : Gates → meaning.Gates
 answerOf (Refused why) = refused (refusalNumber why)
 answerOf NotStarted = notStarted
 answerOf (Open s k d) = opens s k d
+
+-- what sound memory answers, whatever its profile: its running block, if there is one
+unfoldable pub running : List ℕ → ℤ → meaning.Gates
+running m z = cond (present m commit) (gatesOf (body m commit) z) (refused 15)

@@ -6,9 +6,9 @@ ghost use mathlib.Core.Bool.{true};
 ghost use lib.ListN.{length};
 ghost use Rattle.meaning.specs.Block.{formAndFit};
 ghost use Rattle.meaning.specs.Memory.{sound};
-ghost use Rattle.meaning.specs.Gates.{entryAt, gatesOf, gates, gatesNumber};
+ghost use Rattle.meaning.specs.Gates.{entryAt, gatesOf, gatesNumber};
 ghost use Rattle.meaning.specs.FormB as formB;
-ghost use Rattle.gates.specs.Answers.{refusalNumber, answerOf};
+ghost use Rattle.gates.specs.Answers.{refusalNumber, answerOf, running};
 
 // Why there is no answer: the memory is not that of a port, or no block runs.
 pub enum Refusal {
@@ -77,10 +77,10 @@ fn ask(block: &[u8], instant: i64) -> Gates
     entry_at(schedule::list_of(block), time, cycle)
 }
 
-// What the memory of a port answers: its running block, if there is one.
+// What the memory of a port answers, whatever its profile: its running block, if there is one.
 fn ask_memory(m: &[u8], instant: i64) -> Gates
     requires { ⌜ sound (now m) ≡ true ⌝ }
-    ensures { λ r. ⌜ answerOf r ≡ gates (now (m .entry)) instant ⌝ }
+    ensures { λ r. ⌜ answerOf r ≡ running (now (m .entry)) instant ⌝ }
 {
     if !memory::present(m, table::COMMIT) {
         return Gates::Refused(Refusal::NothingRuns);

@@ -11,7 +11,7 @@ use lib.ListN.{length, getD, drop}
 use lib.Seq.{drop-cons}
 use borrow.Author.Tests.{ltb-true, lt-ltb, le-ltb, eq-eqb, ne-eqb}
 use Rattle.meaning.specs.Octets.{same, nonempty, every}
-use Rattle.meaning.specs.Table.{place, listed, rowAt, byPort, entryCount}
+use Rattle.meaning.specs.Table.{place, rowAt, byPort, entryCount}
 use Rattle.meaning.specs.Block.{permits}
 use Rattle.meaning.specs.Memory.{subscribed, pending, inFlight, body, flags, put}
 use Rattle.meaning.specs.Calls.{localPermitted, differs, localMemory}
@@ -38,18 +38,18 @@ module _ (a b : List ℕ) (i : ℕ) (h : i < length a) (l : length a ≡ length 
 
 -- ---- what is permitted
 
-pub unlisted : (n : ℕ) (v : List ℕ) → entryCount ≤ place n → localPermitted n v ≡ false
-unfolding localPermitted listed every
-unlisted n v h = rw (le-ltb (place n) entryCount h)
+pub no-entry : (n : ℕ) (v : List ℕ) → entryCount ≤ place n → localPermitted n v ≡ false
+unfolding localPermitted every
+no-entry n v h = rw (le-ltb (place n) entryCount h)
 
--- a listed name, at its place
+-- a name of an entry, at its place
 module _ (n k : ℕ) (v : List ℕ) (p : k ≡ place n) (h : k < entryCount) where
   pub foreign : byPort (rowAt k .owner) ≡ false → localPermitted n v ≡ false
-  unfolding localPermitted listed every
+  unfolding localPermitted every
   foreign e = rw (sym p, lt-ltb k entryCount h, e)
 
   pub made-absent : byPort (rowAt k .owner) ≡ true → length v ≡ 0 → localPermitted n v ≡ true
-  unfolding localPermitted listed every
+  unfolding localPermitted every
   made-absent e z = rw (sym p, lt-ltb k entryCount h, e) (go v z)
     where
       go : (w : List ℕ) → length w ≡ 0 → ((not (nonempty w) || permits (rowAt k) w) && true) ≡ true
@@ -57,7 +57,7 @@ module _ (n k : ℕ) (v : List ℕ) (p : k ≡ place n) (h : k < entryCount) whe
       go (x ∷ w) z = absurd (omega (arith, z))
 
   pub asked : byPort (rowAt k .owner) ≡ true → length v ≢ 0 → localPermitted n v ≡ permits (rowAt k) v
-  unfolding localPermitted listed every
+  unfolding localPermitted every
   asked e z = rw (sym p, lt-ltb k entryCount h, e) (go v z)
     where
       go : (w : List ℕ) → length w ≢ 0 → ((not (nonempty w) || permits (rowAt k) w) && true) ≡ permits (rowAt k) w
@@ -68,7 +68,7 @@ module _ (n k : ℕ) (v : List ℕ) (p : k ≡ place n) (h : k < entryCount) whe
 
 -- a permitted value has a place, and room there
 pub permitted-place : (n : ℕ) (v : List ℕ) → localPermitted n v ≡ true → (place n < entryCount) × (length v ≤ rowAt (place n) .most)
-unfolding localPermitted listed
+unfolding localPermitted
 permitted-place n v e = (ltb-true _ _ (every-at _ 0 e), go v (every-at _ 2 e))
   where
     go : (w : List ℕ) → (not (nonempty w) || permits (rowAt (place n)) w) ≡ true → length w ≤ rowAt (place n) .most

@@ -10,7 +10,8 @@ use lib.Dec.{leb}
 use borrow.Author.Tests.{leb-true, le-leb, eqb-true}
 use Rattle.meaning.specs.Octets.{octet, every, implies}
 use Rattle.meaning.specs.Checks.{firstFailed}
-use Rattle.meaning.specs.Memory.{waiting, sound}
+use Rattle.meaning.specs.Memory.{waiting}
+use Rattle.meaning.specs.Profile.{soundIn}
 use Rattle.meaning.specs.Operation.{Op, parse, isSome, orNone, breakOf}
 use Rattle.meaning.specs.Step.{after}
 use Rattle.meaning.specs.Reply.{complete}
@@ -20,14 +21,14 @@ use Rattle.meaning.proofs.Checked.{call-done, call-passed}
 use Rattle.meaning.proofs.Records.{Fits, fits-opened, fits-closed}
 
 -- a command of these operations that a memory and a room of n octets carry out
-pub record Accepted (m s : List ℕ) (n : ℕ) (os : List Op) : Type 0 where
-  pub isSound : sound m ≡ true
+pub record Accepted (p : ℕ) (m s : List ℕ) (n : ℕ) (os : List Op) : Type 0 where
+  pub isSound : soundIn p m ≡ true
   pub command : isCommand s ≡ true
   pub long : length s ≤ 2048
   pub nonzero : 1 ≤ lengthField s
   pub inside : 3 + lengthField s ≤ length s
-  pub parsed : parse (operations s) ≡ some os
-  pub fit : Fits n (records m os)
+  pub parsed : parse p (operations s) ≡ some os
+  pub fit : Fits p n (records p m os)
 
 one-type : (s : List ℕ) → isCommand s ≡ true → isAcknowledgement s ≡ false
 unfolding isCommand isAcknowledgement
@@ -39,13 +40,13 @@ pub some-of : (o : Option (List Op)) → isSome o ≡ true → o ≡ some (orNon
 some-of none e = absurd (false≢true e)
 some-of (some os) e = refl
 
-pub ops-parsed : (s : List ℕ) (os : List Op) → parse (operations s) ≡ some os → opsOf s ≡ os
+pub ops-parsed : (p : ℕ) (s : List ℕ) (os : List Op) → parse p (operations s) ≡ some os → opsOf p s ≡ os
 unfolding opsOf
-ops-parsed s os e = rw e
+ops-parsed p s os e = rw e
 
-pub handled-command : (m s : List ℕ) → isCommand s ≡ true → handled m s ≡ carriedOut m (opsOf s)
+pub handled-command : (p : ℕ) (m s : List ℕ) → isCommand s ≡ true → handled p m s ≡ carriedOut p m (opsOf p s)
 unfolding handled
-handled-command m s e = rw e
+handled-command p m s e = rw e
 
 -- L is there, is not 0 and not past the end
 pub length-right : (s : List ℕ) → lengthRight s ≡ true → (1 ≤ lengthField s) × (3 + lengthField s ≤ length s)
@@ -57,24 +58,24 @@ unfolding lengthRight every
 right-length s a b = simp (le-leb 3 (length s) (omega arith), le-leb _ _ a, le-leb _ _ b)
 
 -- what a message's checks say where all pass
-pub record Passed (m s : List ℕ) (n : ℕ) : Type 0 where
-  pub isSound : sound m ≡ true
+pub record Passed (p : ℕ) (m s : List ℕ) (n : ℕ) : Type 0 where
+  pub isSound : soundIn p m ≡ true
   pub nonempty : leb 1 (length s) ≡ true
   pub short : leb (length s) 2048 ≡ true
   pub known : (isCommand s || isAcknowledgement s) ≡ true
   pub lengthIs : implies (isCommand s) (lengthRight s) ≡ true
-  pub wellFormed : implies (isCommand s) (isSome (parse (operations s))) ≡ true
+  pub wellFormed : implies (isCommand s) (isSome (parse p (operations s))) ≡ true
   pub awaited : implies (isAcknowledgement s) (waiting m) ≡ true
-  pub fit : fits n (handled m s) ≡ true
+  pub fit : fits n (handled p m s) ≡ true
 
-passed-message : (m s : List ℕ) (n : ℕ) → Passed m s n → firstFailed (messageChecks m s n) ≡ 0
+passed-message : (p : ℕ) (m s : List ℕ) (n : ℕ) → Passed p m s n → firstFailed (messageChecks p m s n) ≡ 0
 unfolding messageChecks
-passed-message m s n p =
-    all-passing (messageChecks m s n) (p .isSound, (p .nonempty, (p .short, (p .known, (p .lengthIs, (p .wellFormed, (p .awaited, (p .fit, tt))))))))
+passed-message p m s n q =
+    all-passing (messageChecks p m s n) (q .isSound, (q .nonempty, (q .short, (q .known, (q .lengthIs, (q .wellFormed, (q .awaited, (q .fit, tt))))))))
 
-pub message-passed : (m s : List ℕ) (n : ℕ) → firstFailed (messageChecks m s n) ≡ 0 → Passed m s n
+pub message-passed : (p : ℕ) (m s : List ℕ) (n : ℕ) → firstFailed (messageChecks p m s n) ≡ 0 → Passed p m s n
 unfolding messageChecks
-message-passed m s n e =
+message-passed p m s n e =
     let e1 = first-passed 0 _ _ e in
     let e2 = first-passed 1 _ _ (e1 .1) in
     let e3 = first-passed 2 _ _ (e2 .1) in
@@ -94,9 +95,9 @@ message-passed m s n e =
       fit = e7 .0;
     }
 
-pub accepted-passes : (m s : List ℕ) (n : ℕ) (os : List Op) → Accepted m s n os → firstFailed (messageChecks m s n) ≡ 0
-accepted-passes m s n os a =
-    passed-message m s n
+pub accepted-passes : (p : ℕ) (m s : List ℕ) (n : ℕ) (os : List Op) → Accepted p m s n os → firstFailed (messageChecks p m s n) ≡ 0
+accepted-passes p m s n os a =
+    passed-message p m s n
     record {
       isSound = a .isSound;
       nonempty = le-leb 1 (length s) (omega (arith, a .inside));
@@ -105,35 +106,35 @@ accepted-passes m s n os a =
       lengthIs = implies-of _ _ (λ _. right-length s (a .nonzero) (a .inside));
       wellFormed = implies-of _ _ (λ _. ap isSome (a .parsed));
       awaited = implies-of _ _ (λ e. absurd (false≢true (sym (one-type s (a .command)) ∙ e)));
-      fit = rw (handled-command m s (a .command), ops-parsed s os (a .parsed)) (fits-closed n m os (a .fit));
+      fit = rw (handled-command p m s (a .command), ops-parsed p s os (a .parsed)) (fits-closed p n m os (a .fit));
     }
 
-pub passes-accepted : (m s : List ℕ) (n : ℕ) → isCommand s ≡ true → firstFailed (messageChecks m s n) ≡ 0 → Accepted m s n (opsOf s)
+pub passes-accepted : (p : ℕ) (m s : List ℕ) (n : ℕ) → isCommand s ≡ true → firstFailed (messageChecks p m s n) ≡ 0 → Accepted p m s n (opsOf p s)
 unfolding opsOf
-passes-accepted m s n c e =
-    let p = message-passed m s n e in
-    let l = length-right s (implied (isCommand s) _ (p .lengthIs) c) in
+passes-accepted p m s n c e =
+    let q = message-passed p m s n e in
+    let l = length-right s (implied (isCommand s) _ (q .lengthIs) c) in
     record {
-      isSound = p .isSound;
+      isSound = q .isSound;
       command = c;
-      long = leb-true _ _ (p .short);
+      long = leb-true _ _ (q .short);
       nonzero = l .0;
       inside = l .1;
-      parsed = some-of (parse (operations s)) (implied (isCommand s) _ (p .wellFormed) c);
-      fit = fits-opened n m (opsOf s) (ap (fits n) (sym (handled-command m s c)) ∙ p .fit);
+      parsed = some-of (parse p (operations s)) (implied (isCommand s) _ (q .wellFormed) c);
+      fit = fits-opened p n m (opsOf p s) (ap (fits n) (sym (handled-command p m s c)) ∙ q .fit);
     }
 
 -- what an accepted command's call gives
-pub accepted-call : (m s room : List ℕ) (os : List Op) → Accepted m s (length room) os
-    → message m s room ≡ done (complete (records m os)) (after m os) room
+pub accepted-call : (p : ℕ) (m s room : List ℕ) (os : List Op) → Accepted p m s (length room) os
+    → message p m s room ≡ done (complete p (records p m os)) (after p m os) room
 unfolding message carriedOut
-accepted-call m s room os a =
-    ap (located (breakOf (operations s))) (call-done (messageChecks m s (length room)) _ m room (accepted-passes m s (length room) os a))
-    ∙ rw (handled-command m s (a .command), ops-parsed s os (a .parsed))
+accepted-call p m s room os a =
+    ap (located (breakOf p (operations s))) (call-done (messageChecks p m s (length room)) _ m room (accepted-passes p m s (length room) os a))
+    ∙ rw (handled-command p m s (a .command), ops-parsed p s os (a .parsed))
 
-pub carried-accepted : (m s room : List ℕ) → isCommand s ≡ true → message m s room .number ≡ 0 → Accepted m s (length room) (opsOf s)
+pub carried-accepted : (p : ℕ) (m s room : List ℕ) → isCommand s ≡ true → message p m s room .number ≡ 0 → Accepted p m s (length room) (opsOf p s)
 unfolding message
-carried-accepted m s room c e = passes-accepted m s (length room) c (call-passed (messageChecks m s (length room)) _ m room e)
+carried-accepted p m s room c e = passes-accepted p m s (length room) c (call-passed (messageChecks p m s (length room)) _ m room e)
 
 -- octets written that fit leave the room as long as it was
 pub done-room : (w m room : List ℕ) → length w ≤ length room → length (done w m room .room) ≡ length room

@@ -5,6 +5,7 @@ use mathlib.Core.List.{List, [], _∷_, _++_, map}
 use Rattle.meaning.specs.Octets.{zeros}
 use Rattle.meaning.specs.Memory.{fresh}
 use Rattle.meaning.specs.Delay.{delay}
+use Rattle.meaning.specs.Profile.{release18}
 use Rattle.meaning.specs.Calls.{message}
 use Rattle.meaning.proofs.All.{all}
 use Rattle.meaning.proofs.Wording.{twoOctets, withLength, setting, shortRecord}
@@ -28,7 +29,7 @@ example t n r = record { trial = t; wanted = record { number = n; octets = r } }
 
 unfoldable pub given : Trial → Result
 given (sent s) =
-    let o = message fresh s (zeros 4096) in
+    let o = message release18 fresh s (zeros 4096) in
     record { number = o .number; octets = o .written }
 given (nanoseconds n) = record { number = 0; octets = delay n }
 

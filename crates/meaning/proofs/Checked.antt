@@ -51,21 +51,21 @@ unlocated p true true true w m′ m room = refl
 
 -- ---- a set
 
-module _ (m : List ℕ) (n : ℕ) (v : List ℕ) where
+module _ (p : ℕ) (m : List ℕ) (n : ℕ) (v : List ℕ) where
   abbrev after-set : List ℕ
-  after-set = store m (place n) (stored m (place n) v)
+  after-set = store m (place n) (stored p m (place n) v)
 
-  pub set-stores : firstFailed (setChecks m n v) ≡ 0 → setMemory m n v ≡ after-set
+  pub set-stores : firstFailed (setChecks p m n v) ≡ 0 → setMemory p m n v ≡ after-set
   unfolding setMemory whenPassed
   set-stores e = ap (λ (c : ℕ). whenPassed c after-set (λ _. m)) e
 
-  pub set-fails : (c : ℕ) → firstFailed (setChecks m n v) ≡ suc c → setMemory m n v ≡ m
+  pub set-fails : (c : ℕ) → firstFailed (setChecks p m n v) ≡ suc c → setMemory p m n v ≡ m
   unfolding setMemory whenPassed
   set-fails c e = ap (λ (i : ℕ). whenPassed i after-set (λ _. m)) e
 
-  pub set-either : (P : List ℕ → Type 0) → (firstFailed (setChecks m n v) ≡ 0 → P after-set) → P m → P (setMemory m n v)
-  set-either P f p = go (firstFailed (setChecks m n v)) refl
+  pub set-either : (P : List ℕ → Type 0) → (firstFailed (setChecks p m n v) ≡ 0 → P after-set) → P m → P (setMemory p m n v)
+  set-either P f q = go (firstFailed (setChecks p m n v)) refl
     where
-      go : (c : ℕ) → firstFailed (setChecks m n v) ≡ c → P (setMemory m n v)
+      go : (c : ℕ) → firstFailed (setChecks p m n v) ≡ c → P (setMemory p m n v)
       go zero e = rw (set-stores e) (f e)
-      go (suc c) e = rw (set-fails c e) p
+      go (suc c) e = rw (set-fails c e) q

@@ -3,16 +3,16 @@
 use Prim.Native.Nat.{ℕ, _+_, _*_, _/_, _%_}
 use native.Mathlib.Omega.{arith}
 use mathlib.Core.Path.{_≡_, refl, ap, _∙_}
-use mathlib.Core.Bool.{true, false}
+use mathlib.Core.Bool.{Bool, true, false, cond}
 use mathlib.Core.List.{List, [], _∷_, _++_, map}
 use lib.Dec.{eqb}
 use lib.ListN.{length}
 use borrow.Author.Tests.{eq-eqb}
 use Rattle.meaning.specs.Octets.{octet, zeros, flat, be16}
 use Rattle.meaning.specs.Checks.{passed, check}
-use Rattle.meaning.specs.Table.{Row, controller, port, nobody, rows, byController, byPort, rooms, roomAt}
-use Rattle.meaning.specs.Wire.{namesLength}
+use Rattle.meaning.specs.Table.{Row, controller, port, nobody, rows, place, placeIn, byController, byPort, rooms, roomAt}
 use Rattle.meaning.specs.Memory.{cell, isPresent, isSubscribed, isPending, isInFlight, present, subscribed, pending, inFlight, fresh}
+use Rattle.meaning.specs.Profile.{isRelease16, lists, listed, namesLength}
 use Rattle.meaning.specs.Reply.{allNames}
 use Rattle.meaning.specs.Calls.{numberOnly, makeFresh}
 use Rattle.meaning.proofs.All.{all}
@@ -41,10 +41,28 @@ pub row-lengths : (map (λ (r : Row). r .least) rows ≡ 8 ∷ 1 ∷ 10 ∷ 4 �
 unfolding rows
 row-lengths = (refl, refl)
 
--- the 19 names, two octets each
-pub names-length : length allNames ≡ namesLength
-unfolding allNames rows flat be16
-names-length = refl
+-- the names that are listed, two octets each: all 19, in Release 16 those without 000B (RULES 12.4, 24.3)
+abbrev pub firstNames : List ℕ
+firstNames = 0 ∷ 0x01 ∷ 0 ∷ 0x03 ∷ 0 ∷ 0x04 ∷ 0 ∷ 0x05 ∷ 0 ∷ 0x06 ∷ 0 ∷ 0x07 ∷ 0 ∷ 0x08 ∷ []
+
+abbrev pub lastNames : List ℕ
+lastNames = 0 ∷ 0x40 ∷ 0 ∷ 0x41 ∷ 0 ∷ 0x42 ∷ 0 ∷ 0x60 ∷ 0 ∷ 0x61 ∷ 0 ∷ 0xA0 ∷ 0 ∷ 0xA1 ∷ 0 ∷ 0xA2 ∷ 0 ∷ 0xA3 ∷ 0 ∷ 0xA4 ∷ 0x80 ∷ 0x01 ∷ []
+
+pub names-spelt : (p : ℕ) → allNames p ≡ firstNames ++ (cond (isRelease16 p) [] (0 ∷ 0x0B ∷ []) ++ lastNames)
+unfolding allNames listed lists place placeIn rows flat be16
+names-spelt p = go (isRelease16 p) refl
+  where
+    go : (b : Bool) → isRelease16 p ≡ b → allNames p ≡ firstNames ++ (cond b [] (0 ∷ 0x0B ∷ []) ++ lastNames)
+    go true e = rw e
+    go false e = rw e
+
+pub names-length : (p : ℕ) → length (allNames p) ≡ namesLength p
+unfolding namesLength
+names-length p = rw (names-spelt p) (go (isRelease16 p))
+  where
+    go : (b : Bool) → length (firstNames ++ (cond b [] (0 ∷ 0x0B ∷ []) ++ lastNames)) ≡ cond b 36 38
+    go true = refl
+    go false = refl
 
 -- where the room of each name starts (RULES 3.10)
 pub rooms-spelt : map roomAt (0 ∷ 1 ∷ 2 ∷ 3 ∷ 4 ∷ 5 ∷ 6 ∷ 7 ∷ 8 ∷ 9 ∷ 10 ∷ 11 ∷ 12 ∷ 13 ∷ 14 ∷ 15 ∷ 16 ∷ 17 ∷ 18 ∷ [])

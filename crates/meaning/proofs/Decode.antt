@@ -221,18 +221,18 @@ unfolding element
 after71 true e = refl
 after71 false e = refl
 
-pub decode-complete : (r : Records) → Good r → length (complete r) ≤ 4096 → decode (complete r) ≡ r
+pub decode-complete : (p : ℕ) (r : Records) → Good r → length (complete p r) ≤ 4096 → decode (complete p r) ≡ r
 unfolding decode complete
-decode-complete r g h =
+decode-complete p r g h =
     let e71 = element 0x71 (anyRead r) (readContents r) in
     let e72 = element 0x72 (anySet r) (setContents r) in
-    let l = complete-length r in
-    let p = opened-back 0x70 (r .capabilities) allNames (e71 ++ e72) (omega arith) refl (after70 (anyRead r) (anySet r) (readContents r) (setContents r)) in
+    let l = complete-length p r in
+    let t = opened-back 0x70 (r .capabilities) (allNames p) (e71 ++ e72) (omega arith) refl (after70 (anyRead r) (anySet r) (readContents r) (setContents r)) in
     let q = opened-back 0x71 (anyRead r) (readContents r) e72 (omega arith) refl (after71 (anySet r) (setContents r)) in
     let s = ap (opened 0x72) (sym (append-nil e72)) ∙ opened-back 0x72 (anySet r) (setContents r) [] (omega arith) refl refl in
     let a = reads-back r g in
     let b = sets-back r g in
-    rw (p, q, s)
+    rw (t, q, s)
     (λ i.
     record {
       capabilities = r .capabilities;
@@ -244,8 +244,8 @@ decode-complete r g h =
     })
 
 -- no two records have one reply
-pub complete-injective : (r s : Records) → Good r → Good s → length (complete r) ≤ 4096 → complete r ≡ complete s → r ≡ s
-complete-injective r s g k h e = sym (decode-complete r g h) ∙ ap decode e ∙ decode-complete s k (rw e at h)
+pub complete-injective : (p : ℕ) (r s : Records) → Good r → Good s → length (complete p r) ≤ 4096 → complete p r ≡ complete p s → r ≡ s
+complete-injective p r s g k h e = sym (decode-complete p r g h) ∙ ap decode e ∙ decode-complete p s k (rw e at h)
 
 -- ---- the length before the long updates is that of the octets after it
 

@@ -11,8 +11,10 @@ use Rattle.meaning.specs.Checks.{firstFailed, whenPassed}
 use Rattle.meaning.specs.Table.{rowAt, rows, commit}
 use Rattle.meaning.specs.Block.{joinedBlock, formAndFit}
 use Rattle.meaning.specs.Memory.{present, body, sound}
+use Rattle.meaning.specs.Profile.{soundIn}
 use Rattle.meaning.specs.Step.{block, commits}
 use Rattle.meaning.specs.Gates.{refused, opens, gatesOf, gatesChecks, gates}
+use Rattle.meaning.proofs.Profiles.{in-sound}
 use Rattle.meaning.proofs.Blocks.{BlockRule, form-spelt, running-kept}
 use Rattle.meaning.proofs.Holding.{Answers, gates-answered}
 use Rattle.meaning.proofs.Cycles.{begun, sleeps, wakes-next, wakes-first}
@@ -23,16 +25,16 @@ use Rattle.meaning.proofs.Running.{SameRunning}
 
 -- ---- what refuses, and in which order
 
-module _ (m : List ℕ) (z : ℤ) where
-  pub gates-unsound : sound m ≡ false → gates m z ≡ refused 1
+module _ (p : ℕ) (m : List ℕ) (z : ℤ) where
+  pub gates-unsound : soundIn p m ≡ false → gates p m z ≡ refused 1
   unfolding gates gatesChecks firstFailed whenPassed
   gates-unsound e = rw e
 
-  pub gates-idle : sound m ≡ true → present m commit ≡ false → gates m z ≡ refused 15
+  pub gates-idle : soundIn p m ≡ true → present m commit ≡ false → gates p m z ≡ refused 15
   unfolding gates gatesChecks firstFailed whenPassed
   gates-idle e f = rw (e, f)
 
-  pub gates-running : sound m ≡ true → present m commit ≡ true → gates m z ≡ gatesOf (body m commit) z
+  pub gates-running : soundIn p m ≡ true → present m commit ≡ true → gates p m z ≡ gatesOf (body m commit) z
   unfolding gates gatesChecks firstFailed whenPassed
   gates-running e f = rw (e, f)
 
@@ -57,16 +59,16 @@ pub accepted-answered : (m v : List ℕ) → commits m v ≡ true → AnswersAll
 accepted-answered m v e = form-answered (block m) (committing m v e .form)
 
 -- so does each memory in which one runs
-pub memory-answered : (m : List ℕ) (z : ℤ) → sound m ≡ true → present m commit ≡ true
-    → (n : ℕ) × BlockRule (body m commit) n × Answers (body m commit) n z (gates m z)
-memory-answered m z e f =
-    let a = form-answered (body m commit) (running-form m e f) in
-    (a .0, a .1, rw (gates-running m z e f) (a .2 z))
+pub memory-answered : (p : ℕ) (m : List ℕ) (z : ℤ) → soundIn p m ≡ true → present m commit ≡ true
+    → (n : ℕ) × BlockRule (body m commit) n × Answers (body m commit) n z (gates p m z)
+memory-answered p m z e f =
+    let a = form-answered (body m commit) (running-form m (in-sound p m e) f) in
+    (a .0, a .1, rw (gates-running p m z e f) (a .2 z))
 
 -- whatever leaves the running block leaves the answers
-pub same-gates : (m m′ : List ℕ) (z : ℤ) → sound m ≡ true → sound m′ ≡ true → SameRunning m m′ → gates m′ z ≡ gates m z
+pub same-gates : (p : ℕ) (m m′ : List ℕ) (z : ℤ) → soundIn p m ≡ true → soundIn p m′ ≡ true → SameRunning m m′ → gates p m′ z ≡ gates p m z
 unfolding gates gatesChecks
-same-gates m m′ z e f s = rw (e, f, s .runs, s .block)
+same-gates p m m′ z e f s = rw (e, f, s .runs, s .block)
 
 -- the base time is not asked
 pub base-not-asked : (b b′ c l r : List ℕ) (z : ℤ) → length b ≡ 10 → length b′ ≡ 10 → length c ≡ 4 → length r ≡ 8
@@ -78,23 +80,23 @@ base-not-asked b b′ c l r (pos i) hb hb′ hc hr =
 
 -- ---- what a driver relies on, of the answers that it gets
 
-module _ (m : List ℕ) (sounds : sound m ≡ true) (runs : present m commit ≡ true) (i s k d : ℕ) (e : gates m (pos i) ≡ opens s k d) where
+module _ (p : ℕ) (m : List ℕ) (sounds : soundIn p m ≡ true) (runs : present m commit ≡ true) (i s k d : ℕ) (e : gates p m (pos i) ≡ opens s k d) where
   abbrev b : List ℕ
   b = body m commit
 
   answered : gatesOf b (pos i) ≡ opens s k d
-  answered = sym (gates-running m (pos i) sounds runs) ∙ e
+  answered = sym (gates-running p m (pos i) sounds runs) ∙ e
 
   -- until the nanoseconds have passed nothing changes
-  pub memory-sleeps : (j : ℕ) → j < d → gates m (pos (i + j)) ≡ opens s k (d - j)
+  pub memory-sleeps : (j : ℕ) → j < d → gates p m (pos (i + j)) ≡ opens s k (d - j)
   memory-sleeps j l =
-      let r = form-spelt b (running-form m sounds runs) in
-      gates-running m (pos (i + j)) sounds runs ∙ sleeps b (r .0) (r .1) i s k d answered j l
+      let r = form-spelt b (running-form m (in-sound p m sounds) runs) in
+      gates-running p m (pos (i + j)) sounds runs ∙ sleeps b (r .0) (r .1) i s k d answered j l
 
   -- then the next entry of the n is open, after the last the first
   pub memory-wakes : (n : ℕ) × (length b ≡ 22 + 7 * n)
-      × ((suc k < n → gates m (pos (i + d)) ≡ begun b n (suc k)) × (suc k ≡ n → gates m (pos (i + d)) ≡ begun b n 0))
+      × ((suc k < n → gates p m (pos (i + d)) ≡ begun b n (suc k)) × (suc k ≡ n → gates p m (pos (i + d)) ≡ begun b n 0))
   memory-wakes =
-      let r = form-spelt b (running-form m sounds runs) in
-      let g = gates-running m (pos (i + d)) sounds runs in
+      let r = form-spelt b (running-form m (in-sound p m sounds) runs) in
+      let g = gates-running p m (pos (i + d)) sounds runs in
       (r .0, r .1 .long, (λ l. g ∙ wakes-next b (r .0) (r .1) i s k d answered l, λ l. g ∙ wakes-first b (r .0) (r .1) i s k d answered l))

@@ -10,7 +10,9 @@ use lib.Seq.{take-at, drop-at, length-take-le, drop-drop}
 use lib.Dec.{eqb, leb}
 use borrow.Author.Tests.{leb-true, le-leb, eqb-true}
 use Rattle.meaning.specs.Octets.{at16, be16, part, flat}
-use Rattle.meaning.specs.Operation.{Op, capabilities, read, set, subscribe, unsubscribe, selectiveRead, selectiveSubscribe, selectiveUnsubscribe, deleteEntry, Shape, alone, named, valued, malformed, shape, Next, bad, got, whole, shaped, more, follow, parseIn, parse}
+use Rattle.meaning.specs.Operation.{Op, capabilities, read, set, subscribe, unsubscribe, selectiveRead, selectiveSubscribe, selectiveUnsubscribe, deleteEntry, Shape, alone, named, valued, malformed, shapeOf, shape, Next, bad, got, whole, shaped, more, follow, parseIn, parse}
+use Rattle.meaning.specs.Profile.{isRelease16, hasCode}
+use Rattle.meaning.proofs.Profiles.{low-code, every-code, high-code, shape-has}
 use Rattle.meaning.proofs.Lists.{Each, Octets, each-drop, at16-be16, at16-second, be16-at16}
 
 unfoldable pub encode : Op → List ℕ
@@ -24,17 +26,17 @@ encode (selectiveSubscribe n v) = 7 ∷ be16 n ++ (be16 (length v) ++ v)
 encode (selectiveUnsubscribe n v) = 8 ∷ be16 n ++ (be16 (length v) ++ v)
 encode (deleteEntry n v) = 9 ∷ be16 n ++ (be16 (length v) ++ v)
 
--- an operation that two octets of name and two of length can carry
-abbrev pub Fine : Op → Type 0
-Fine capabilities = Unit {0}
-Fine (read n) = n < 65536
-Fine (set n v) = (n < 65536) × (length v < 65536)
-Fine (subscribe n) = n < 65536
-Fine (unsubscribe n) = n < 65536
-Fine (selectiveRead n v) = (n < 65536) × (length v < 65536)
-Fine (selectiveSubscribe n v) = (n < 65536) × (length v < 65536)
-Fine (selectiveUnsubscribe n v) = (n < 65536) × (length v < 65536)
-Fine (deleteEntry n v) = (n < 65536) × (length v < 65536)
+-- an operation whose code the profile has, and that two octets of name and two of length can carry
+abbrev pub Fine : (p : ℕ) → Op → Type 0
+Fine p capabilities = Unit {0}
+Fine p (read n) = n < 65536
+Fine p (set n v) = (n < 65536) × (length v < 65536)
+Fine p (subscribe n) = n < 65536
+Fine p (unsubscribe n) = n < 65536
+Fine p (selectiveRead n v) = (n < 65536) × (length v < 65536) × (isRelease16 p ≡ false)
+Fine p (selectiveSubscribe n v) = (n < 65536) × (length v < 65536) × (isRelease16 p ≡ false)
+Fine p (selectiveUnsubscribe n v) = (n < 65536) × (length v < 65536) × (isRelease16 p ≡ false)
+Fine p (deleteEntry n v) = (n < 65536) × (length v < 65536) × (isRelease16 p ≡ false)
 
 pub encode-some : (o : Op) → 1 ≤ length (encode o)
 unfolding encode
@@ -50,9 +52,9 @@ encode-some (deleteEntry n v) = omega arith
 
 -- ---- the first operation of a list of octets
 
-abbrev pub firstOf : List ℕ → Next
-firstOf [] = bad
-firstOf (c ∷ s) = shaped (shape c) s
+abbrev pub firstOf : (p : ℕ) → List ℕ → Next
+firstOf p [] = bad
+firstOf p (c ∷ s) = shaped (shape p c) s
 
 whole-there : (w : ℕ) (s : List ℕ) (o : Op) → w ≤ length s → whole w s o ≡ got o (drop w s)
 unfolding whole
@@ -84,87 +86,93 @@ valued-first f n v r hn hv =
 
 -- ---- what is spelt is parsed
 
-pub first-encoded : (o : Op) (r : List ℕ) → Fine o → firstOf (encode o ++ r) ≡ got o r
-unfolding encode shape be16 shaped
-first-encoded capabilities r f = refl
-first-encoded (read n) r f = named-first read n r f
-first-encoded (set n v) r f = valued-first set n v r (f .0) (f .1)
-first-encoded (subscribe n) r f = named-first subscribe n r f
-first-encoded (unsubscribe n) r f = named-first unsubscribe n r f
-first-encoded (selectiveRead n v) r f = valued-first selectiveRead n v r (f .0) (f .1)
-first-encoded (selectiveSubscribe n v) r f = valued-first selectiveSubscribe n v r (f .0) (f .1)
-first-encoded (selectiveUnsubscribe n v) r f = valued-first selectiveUnsubscribe n v r (f .0) (f .1)
-first-encoded (deleteEntry n v) r f = valued-first deleteEntry n v r (f .0) (f .1)
+low : (p c : ℕ) → c ≤ 5 → shape p c ≡ shapeOf c
+low p c h = shape-has p c (low-code p c h)
 
-step-encoded : (k : ℕ) (o : Op) (r : List ℕ) → parseIn (suc k) (encode o ++ r) ≡ follow (firstOf (encode o ++ r)) (λ s. parseIn k s)
+high : (p c : ℕ) → isRelease16 p ≡ false → shape p c ≡ shapeOf c
+high p c e = shape-has p c (every-code p c e)
+
+pub first-encoded : (p : ℕ) (o : Op) (r : List ℕ) → Fine p o → firstOf p (encode o ++ r) ≡ got o r
+unfolding encode shapeOf be16 shaped
+first-encoded p capabilities r f = rw (low p 1 (omega arith))
+first-encoded p (read n) r f = rw (low p 2 (omega arith)) (named-first read n r f)
+first-encoded p (set n v) r f = rw (low p 3 (omega arith)) (valued-first set n v r (f .0) (f .1))
+first-encoded p (subscribe n) r f = rw (low p 4 (omega arith)) (named-first subscribe n r f)
+first-encoded p (unsubscribe n) r f = rw (low p 5 (omega arith)) (named-first unsubscribe n r f)
+first-encoded p (selectiveRead n v) r f = rw (high p 6 (f .2)) (valued-first selectiveRead n v r (f .0) (f .1))
+first-encoded p (selectiveSubscribe n v) r f = rw (high p 7 (f .2)) (valued-first selectiveSubscribe n v r (f .0) (f .1))
+first-encoded p (selectiveUnsubscribe n v) r f = rw (high p 8 (f .2)) (valued-first selectiveUnsubscribe n v r (f .0) (f .1))
+first-encoded p (deleteEntry n v) r f = rw (high p 9 (f .2)) (valued-first deleteEntry n v r (f .0) (f .1))
+
+step-encoded : (p k : ℕ) (o : Op) (r : List ℕ) → parseIn p (suc k) (encode o ++ r) ≡ follow (firstOf p (encode o ++ r)) (λ s. parseIn p k s)
 unfolding parseIn encode
-step-encoded k capabilities r = refl
-step-encoded k (read n) r = refl
-step-encoded k (set n v) r = refl
-step-encoded k (subscribe n) r = refl
-step-encoded k (unsubscribe n) r = refl
-step-encoded k (selectiveRead n v) r = refl
-step-encoded k (selectiveSubscribe n v) r = refl
-step-encoded k (selectiveUnsubscribe n v) r = refl
-step-encoded k (deleteEntry n v) r = refl
+step-encoded p k capabilities r = refl
+step-encoded p k (read n) r = refl
+step-encoded p k (set n v) r = refl
+step-encoded p k (subscribe n) r = refl
+step-encoded p k (unsubscribe n) r = refl
+step-encoded p k (selectiveRead n v) r = refl
+step-encoded p k (selectiveSubscribe n v) r = refl
+step-encoded p k (selectiveUnsubscribe n v) r = refl
+step-encoded p k (deleteEntry n v) r = refl
 
-encoded-in : (os : List Op) (k : ℕ) → Each Fine os → length (flat encode os) ≤ k → parseIn k (flat encode os) ≡ some os
+encoded-in : (p : ℕ) (os : List Op) (k : ℕ) → Each (Fine p) os → length (flat encode os) ≤ k → parseIn p k (flat encode os) ≡ some os
 unfolding parseIn flat follow more
-encoded-in [] zero f h = refl
-encoded-in [] (suc k) f h = refl
-encoded-in (o ∷ os) zero f h = absurd (omega (arith, encode-some o, length-append (encode o) (flat encode os)))
-encoded-in (o ∷ os) (suc k) f h =
-    step-encoded k o (flat encode os)
+encoded-in p [] zero f h = refl
+encoded-in p [] (suc k) f h = refl
+encoded-in p (o ∷ os) zero f h = absurd (omega (arith, encode-some o, length-append (encode o) (flat encode os)))
+encoded-in p (o ∷ os) (suc k) f h =
+    step-encoded p k o (flat encode os)
     ∙ rw (
-      first-encoded o (flat encode os) (f .0),
-      encoded-in os k (f .1) (omega (arith, encode-some o, length-append (encode o) (flat encode os))),
+      first-encoded p o (flat encode os) (f .0),
+      encoded-in p os k (f .1) (omega (arith, encode-some o, length-append (encode o) (flat encode os))),
     )
 
-pub parse-encoded : (os : List Op) → Each Fine os → parse (flat encode os) ≡ some os
+pub parse-encoded : (p : ℕ) (os : List Op) → Each (Fine p) os → parse p (flat encode os) ≡ some os
 unfolding parse
-parse-encoded os f = encoded-in os (length (flat encode os)) f (omega arith)
+parse-encoded p os f = encoded-in p os (length (flat encode os)) f (omega arith)
 
 -- ---- what is parsed was spelt so
 
 -- the octets s are those of the operation found and then those after it
-abbrev pub Split : List ℕ → Next → Type 0
-Split s bad = Unit {0}
-Split s (got o r) = (s ≡ encode o ++ r) × Fine o × Octets r
+abbrev pub Split : (p : ℕ) → List ℕ → Next → Type 0
+Split p s bad = Unit {0}
+Split p s (got o r) = (s ≡ encode o ++ r) × Fine p o × Octets r
 
 -- a shape reads what was spelt with the code c
-abbrev pub Right : ℕ → Shape → Type 0
-Right c sh = (s : List ℕ) → Octets s → Split (c ∷ s) (shaped sh s)
+abbrev pub Right : (p : ℕ) → ℕ → Shape → Type 0
+Right p c sh = (s : List ℕ) → Octets s → Split p (c ∷ s) (shaped sh s)
 
-alone-right : (c : ℕ) (o : Op) → Fine o → encode o ≡ c ∷ [] → Right c (alone o)
+alone-right : (p c : ℕ) (o : Op) → Fine p o → encode o ≡ c ∷ [] → Right p c (alone o)
 unfolding shaped
-alone-right c o f e = λ s os. (rw e, f, os)
+alone-right p c o f e = λ s os. (rw e, f, os)
 
 -- where the octets are too few nothing is claimed
-whole-split : (w : ℕ) (t s : List ℕ) (o : Op) → (w ≤ length s → Split t (got o (drop w s))) → Split t (whole w s o)
+whole-split : (p w : ℕ) (t s : List ℕ) (o : Op) → (w ≤ length s → Split p t (got o (drop w s))) → Split p t (whole w s o)
 unfolding whole
-whole-split w t s o h = go (leb w (length s)) refl
+whole-split p w t s o h = go (leb w (length s)) refl
   where
-    go : (b : Bool) → leb w (length s) ≡ b → Split t (cond b (got o (drop w s)) bad)
+    go : (b : Bool) → leb w (length s) ≡ b → Split p t (cond b (got o (drop w s)) bad)
     go true e = h (leb-true w (length s) e)
     go false e = tt
 
-named-right : (c : ℕ) (f : ℕ → Op) → ((n : ℕ) → n < 65536 → Fine (f n)) → ((n : ℕ) → encode (f n) ≡ c ∷ be16 n) → Right c (named f)
+named-right : (p c : ℕ) (f : ℕ → Op) → ((n : ℕ) → n < 65536 → Fine p (f n)) → ((n : ℕ) → encode (f n) ≡ c ∷ be16 n) → Right p c (named f)
 unfolding shaped at16
-named-right c f fine enc = λ s os. whole-split 2 (c ∷ s) s (f (at16 s 0)) (λ h. there s os h)
+named-right p c f fine enc = λ s os. whole-split p 2 (c ∷ s) s (f (at16 s 0)) (λ h. there s os h)
   where
-    there : (s : List ℕ) → Octets s → 2 ≤ length s → Split (c ∷ s) (got (f (at16 s 0)) (drop 2 s))
+    there : (s : List ℕ) → Octets s → 2 ≤ length s → Split p (c ∷ s) (got (f (at16 s 0)) (drop 2 s))
     there [] os h = absurd (omega arith)
     there (x ∷ []) os h = absurd (omega arith)
     there (x ∷ y ∷ s) os h = (rw (enc, be16-at16 x y (os .0) (os .1 .0)), fine (x * 256 + y) (omega arith), os .1 .1)
 
-valued-right : (c : ℕ) (f : ℕ → List ℕ → Op) → ((n : ℕ) (v : List ℕ) → n < 65536 → length v < 65536 → Fine (f n v))
-    → ((n : ℕ) (v : List ℕ) → encode (f n v) ≡ c ∷ be16 n ++ (be16 (length v) ++ v)) → Right c (valued f)
+valued-right : (p c : ℕ) (f : ℕ → List ℕ → Op) → ((n : ℕ) (v : List ℕ) → n < 65536 → length v < 65536 → Fine p (f n v))
+    → ((n : ℕ) (v : List ℕ) → encode (f n v) ≡ c ∷ be16 n ++ (be16 (length v) ++ v)) → Right p c (valued f)
 unfolding shaped at16 part
-valued-right c f fine enc =
-    λ s os. whole-split (4 + at16 s 2) (c ∷ s) s (f (at16 s 0) (part s 4 (at16 s 2))) (λ h. there s os h)
+valued-right p c f fine enc =
+    λ s os. whole-split p (4 + at16 s 2) (c ∷ s) s (f (at16 s 0) (part s 4 (at16 s 2))) (λ h. there s os h)
   where
     there : (s : List ℕ) → Octets s → 4 + at16 s 2 ≤ length s
-        → Split (c ∷ s) (got (f (at16 s 0) (part s 4 (at16 s 2))) (drop (4 + at16 s 2) s))
+        → Split p (c ∷ s) (got (f (at16 s 0) (part s 4 (at16 s 2))) (drop (4 + at16 s 2) s))
     there [] os h = absurd (omega arith)
     there (x ∷ []) os h = absurd (omega arith)
     there (x ∷ y ∷ []) os h = absurd (omega arith)
@@ -179,55 +187,66 @@ valued-right c f fine enc =
           rw d (each-drop (λ i. i < 256) n r o4),
         )
 
-malformed-right : (c : ℕ) → Right c malformed
+malformed-right : (p c : ℕ) → Right p c malformed
 unfolding shaped
-malformed-right c = λ s os. tt
+malformed-right p c = λ s os. tt
 
-choice-right : (c d : ℕ) (x y : Shape) → Right d x → Right c y → Right c (cond (eqb c d) x y)
-choice-right c d x y p q = go (eqb c d) refl
+choice-right : (p c d : ℕ) (x y : Shape) → (c ≡ d → Right p d x) → Right p c y → Right p c (cond (eqb c d) x y)
+choice-right p c d x y h q = go (eqb c d) refl
   where
-    go : (b : Bool) → eqb c d ≡ b → Right c (cond b x y)
-    go true e = rw (eqb-true c d e) p
+    go : (b : Bool) → eqb c d ≡ b → Right p c (cond b x y)
+    go true e = rw (eqb-true c d e) (h (eqb-true c d e))
     go false e = q
 
-pub shape-right : (c : ℕ) → Right c (shape c)
-unfolding shape encode
-shape-right c =
-    choice-right c 1 _ _ (alone-right 1 capabilities tt refl)
-    (choice-right c 2 _ _ (named-right 2 read (λ n h. h) (λ n. refl))
-    (choice-right c 3 _ _ (valued-right 3 set (λ n v h k. (h, k)) (λ n v. refl))
-    (choice-right c 4 _ _ (named-right 4 subscribe (λ n h. h) (λ n. refl))
-    (choice-right c 5 _ _ (named-right 5 unsubscribe (λ n h. h) (λ n. refl))
-    (choice-right c 6 _ _ (valued-right 6 selectiveRead (λ n v h k. (h, k)) (λ n v. refl))
-    (choice-right c 7 _ _ (valued-right 7 selectiveSubscribe (λ n v h k. (h, k)) (λ n v. refl))
-    (choice-right c 8 _ _ (valued-right 8 selectiveUnsubscribe (λ n v h k. (h, k)) (λ n v. refl))
-    (choice-right c 9 _ _ (valued-right 9 deleteEntry (λ n v h k. (h, k)) (λ n v. refl))
-    (malformed-right c)))))))))
+known-right : (p c : ℕ) → hasCode p c ≡ true → Right p c (shapeOf c)
+unfolding shapeOf encode
+known-right p c e =
+    choice-right p c 1 _ _ (λ q. alone-right p 1 capabilities tt refl)
+    (choice-right p c 2 _ _ (λ q. named-right p 2 read (λ n h. h) (λ n. refl))
+    (choice-right p c 3 _ _ (λ q. valued-right p 3 set (λ n v h k. (h, k)) (λ n v. refl))
+    (choice-right p c 4 _ _ (λ q. named-right p 4 subscribe (λ n h. h) (λ n. refl))
+    (choice-right p c 5 _ _ (λ q. named-right p 5 unsubscribe (λ n h. h) (λ n. refl))
+    (choice-right p c 6 _ _ (λ q. valued-right p 6 selectiveRead (λ n v h k. (h, k, later (omega (arith, q)))) (λ n v. refl))
+    (choice-right p c 7 _ _ (λ q. valued-right p 7 selectiveSubscribe (λ n v h k. (h, k, later (omega (arith, q)))) (λ n v. refl))
+    (choice-right p c 8 _ _ (λ q. valued-right p 8 selectiveUnsubscribe (λ n v h k. (h, k, later (omega (arith, q)))) (λ n v. refl))
+    (choice-right p c 9 _ _ (λ q. valued-right p 9 deleteEntry (λ n v h k. (h, k, later (omega (arith, q)))) (λ n v. refl))
+    (malformed-right p c)))))))))
+  where
+    later : 6 ≤ c → isRelease16 p ≡ false
+    later h = high-code p c e h
 
-abbrev Spelt : List ℕ → Option (List Op) → Type 0
-Spelt s none = Unit {0}
-Spelt s (some os) = (s ≡ flat encode os) × Each Fine os
+pub shape-right : (p c : ℕ) → Right p c (shape p c)
+unfolding shape
+shape-right p c = go (hasCode p c) refl
+  where
+    go : (b : Bool) → hasCode p c ≡ b → Right p c (cond b (shapeOf c) malformed)
+    go true e = known-right p c e
+    go false e = malformed-right p c
 
-spelt-more : (s : List ℕ) (o : Op) (r : List ℕ) (p : Option (List Op)) → s ≡ encode o ++ r → Fine o → Spelt r p → Spelt s (more o p)
+abbrev Spelt : (p : ℕ) → List ℕ → Option (List Op) → Type 0
+Spelt p s none = Unit {0}
+Spelt p s (some os) = (s ≡ flat encode os) × Each (Fine p) os
+
+spelt-more : (p : ℕ) (s : List ℕ) (o : Op) (r : List ℕ) (q : Option (List Op)) → s ≡ encode o ++ r → Fine p o → Spelt p r q → Spelt p s (more o q)
 unfolding more flat
-spelt-more s o r none e f w = tt
-spelt-more s o r (some os) e f w = (e ∙ ap (λ (l : List ℕ). encode o ++ l) (w .0), (f, w .1))
+spelt-more p s o r none e f w = tt
+spelt-more p s o r (some os) e f w = (e ∙ ap (λ (l : List ℕ). encode o ++ l) (w .0), (f, w .1))
 
-spelt-follow : (s : List ℕ) (nx : Next) (rest : List ℕ → Option (List Op)) → Split s nx → ((r : List ℕ) → Octets r → Spelt r (rest r)) → Spelt s (follow nx rest)
+spelt-follow : (p : ℕ) (s : List ℕ) (nx : Next) (rest : List ℕ → Option (List Op)) → Split p s nx → ((r : List ℕ) → Octets r → Spelt p r (rest r)) → Spelt p s (follow nx rest)
 unfolding follow
-spelt-follow s bad rest p h = tt
-spelt-follow s (got o r) rest p h = spelt-more s o r (rest r) (p .0) (p .1) (h r (p .2))
+spelt-follow p s bad rest q h = tt
+spelt-follow p s (got o r) rest q h = spelt-more p s o r (rest r) (q .0) (q .1) (h r (q .2))
 
-spelt-in : (k : ℕ) (s : List ℕ) → Octets s → Spelt s (parseIn k s)
+spelt-in : (p k : ℕ) (s : List ℕ) → Octets s → Spelt p s (parseIn p k s)
 unfolding parseIn flat
-spelt-in zero [] o = (refl, tt)
-spelt-in zero (c ∷ s) o = tt
-spelt-in (suc k) [] o = (refl, tt)
-spelt-in (suc k) (c ∷ s) o = spelt-follow (c ∷ s) (shaped (shape c) s) (λ r. parseIn k r) (shape-right c s (o .1)) (λ r p. spelt-in k r p)
+spelt-in p zero [] o = (refl, tt)
+spelt-in p zero (c ∷ s) o = tt
+spelt-in p (suc k) [] o = (refl, tt)
+spelt-in p (suc k) (c ∷ s) o = spelt-follow p (c ∷ s) (shaped (shape p c) s) (λ r. parseIn p k r) (shape-right p c s (o .1)) (λ r q. spelt-in p k r q)
 
-pub parse-spelt : (s : List ℕ) (os : List Op) → Octets s → parse s ≡ some os → (s ≡ flat encode os) × Each Fine os
+pub parse-spelt : (p : ℕ) (s : List ℕ) (os : List Op) → Octets s → parse p s ≡ some os → (s ≡ flat encode os) × Each (Fine p) os
 unfolding parse
-parse-spelt s os o e = subst (λ (p : Option (List Op)). Spelt s p) e (spelt-in (length s) s o)
+parse-spelt p s os o e = subst (λ (q : Option (List Op)). Spelt p s q) e (spelt-in p (length s) s o)
 
 -- ---- the equation of `parse` with no bound: what a loop over the octets needs
 
@@ -266,21 +285,21 @@ module _ {A : Type 0} (through : ℕ → List ℕ → A) (at-end : (n : ℕ) →
   same-bound (suc j) zero (c ∷ s) p q = absurd (omega arith)
   same-bound (suc j) (suc k) (c ∷ s) p q = settled j k c s (λ r h. same-bound j k r (omega arith) (omega arith))
 
-parsed-end : (n : ℕ) → parseIn n [] ≡ parseIn zero []
+parsed-end : (p n : ℕ) → parseIn p n [] ≡ parseIn p zero []
 unfolding parseIn
-parsed-end zero = refl
-parsed-end (suc n) = refl
+parsed-end p zero = refl
+parsed-end p (suc n) = refl
 
-parsed-settled : (j k c : ℕ) (s : List ℕ) → ((r : List ℕ) → length r ≤ length s → parseIn j r ≡ parseIn k r) → parseIn (suc j) (c ∷ s) ≡ parseIn (suc k) (c ∷ s)
+parsed-settled : (p j k c : ℕ) (s : List ℕ) → ((r : List ℕ) → length r ≤ length s → parseIn p j r ≡ parseIn p k r) → parseIn p (suc j) (c ∷ s) ≡ parseIn p (suc k) (c ∷ s)
 unfolding parseIn
-parsed-settled j k c s h = follow-same (length s) (shaped (shape c) s) (λ r. parseIn j r) (λ r. parseIn k r) (shaped-shorter (shape c) s) h
+parsed-settled p j k c s h = follow-same (length s) (shaped (shape p c) s) (λ r. parseIn p j r) (λ r. parseIn p k r) (shaped-shorter (shape p c) s) h
 
-pub parse-step : (c : ℕ) (s : List ℕ) → parse (c ∷ s) ≡ follow (shaped (shape c) s) parse
+pub parse-step : (p c : ℕ) (s : List ℕ) → parse p (c ∷ s) ≡ follow (shaped (shape p c) s) (parse p)
 unfolding parse parseIn
-parse-step c s =
-    follow-same (length s) (shaped (shape c) s) (λ r. parseIn (length s) r) parse (shaped-shorter (shape c) s)
-    (λ r h. same-bound parseIn parsed-end parsed-settled (length s) (length r) r h (omega arith))
+parse-step p c s =
+    follow-same (length s) (shaped (shape p c) s) (λ r. parseIn p (length s) r) (parse p) (shaped-shorter (shape p c) s)
+    (λ r h. same-bound (parseIn p) (parsed-end p) (parsed-settled p) (length s) (length r) r h (omega arith))
 
-pub parse-nil : parse [] ≡ some []
+pub parse-nil : (p : ℕ) → (parse p) [] ≡ some []
 unfolding parse parseIn
-parse-nil = refl
+parse-nil p = refl

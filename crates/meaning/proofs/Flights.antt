@@ -17,6 +17,7 @@ use Rattle.meaning.proofs.Lists.{part-octet}
 use Rattle.meaning.proofs.Tests.{and-right, denied, not-true, implied, below-at, first-passed}
 use Rattle.meaning.proofs.Moments.{sentFlags, acknowledgedFlags, givenUpFlags, matches, match-at, sent-matches, acknowledged-matches, givenUp-matches}
 use Rattle.meaning.proofs.Places.{timer-setTimer, setTimer-length, cell-setTimer}
+use Rattle.meaning.proofs.Profiles.{in-sound}
 use Rattle.meaning.proofs.Sound.{opened, entry-of, present-setTimer, body-setTimer}
 use Rattle.meaning.proofs.Turned.{SameMarks, cell-marks, Turned, turned-to}
 use Rattle.meaning.proofs.Checked.{call-either, call-done, call-passed}
@@ -120,71 +121,71 @@ built-octets m s idle =
     }
 
 -- a build that is done was of sound memory, and idle
-pub build-idle : (m room : List ℕ) → build m room .number ≡ 0 → (sound m ≡ true) × (waiting m ≡ false)
+pub build-idle : (p : ℕ) (m room : List ℕ) → build p m room .number ≡ 0 → (sound m ≡ true) × (waiting m ≡ false)
 unfolding build buildChecks
-build-idle m room e =
-    let a = first-passed 0 _ _ (call-passed (buildChecks m (length room)) _ m room e) in
+build-idle p m room e =
+    let a = first-passed 0 _ _ (call-passed (buildChecks p m (length room)) _ m room e) in
     let b = first-passed 9 _ _ (first-passed 10 _ _ (a .1) .1) in
-    (a .0, denied (waiting m) (b .0))
+    (in-sound p m (a .0), denied (waiting m) (b .0))
 
-pub build-octets : (m room : List ℕ) → build m room .number ≡ 0 → OctetsAfter sentFlags 1 0 m (build m room .memory)
+pub build-octets : (p : ℕ) (m room : List ℕ) → build p m room .number ≡ 0 → OctetsAfter sentFlags 1 0 m (build p m room .memory)
 unfolding build
-build-octets m room e =
-    let h = build-idle m room e in
-    rw (call-done (buildChecks m (length room)) _ m room (call-passed (buildChecks m (length room)) _ m room e)) (built-octets m (h .0) (h .1))
+build-octets p m room e =
+    let h = build-idle p m room e in
+    rw (call-done (buildChecks p m (length room)) _ m room (call-passed (buildChecks p m (length room)) _ m room e)) (built-octets m (h .0) (h .1))
 
 -- of an acknowledgement that is taken: the memory that it leaves
 not-command : (s : List ℕ) → isAcknowledgement s ≡ true → isCommand s ≡ false
 unfolding isAcknowledgement isCommand
 not-command s a = rw (eqb-true (octet s 0) 4 a)
 
-pub acknowledged-memory : (m s room : List ℕ) → isAcknowledgement s ≡ true → message m s room .number ≡ 0
-    → (message m s room .memory ≡ idled whenAcknowledged m) × (sound m ≡ true) × (waiting m ≡ true)
+pub acknowledged-memory : (p : ℕ) (m s room : List ℕ) → isAcknowledgement s ≡ true → message p m s room .number ≡ 0
+    → (message p m s room .memory ≡ idled whenAcknowledged m) × (sound m ≡ true) × (waiting m ≡ true)
 unfolding message messageChecks
-acknowledged-memory m s room a e =
+acknowledged-memory p m s room a e =
     let c = not-command s a in
-    let cs = messageChecks m s (length room) in
+    let cs = messageChecks p m s (length room) in
     let f = call-passed cs _ m room e in (
       ap (λ (o : Outcome). o .memory) (call-done cs _ m room f)
-          ∙ handled-either (λ m′. m′ ≡ idled whenAcknowledged m) m s (λ d. absurd (false≢true (sym c ∙ d))) (λ d. refl),
-      first-passed 0 _ _ f .0,
-      acknowledged-waits m s room f c,
+          ∙ handled-either p (λ m′. m′ ≡ idled whenAcknowledged m) m s (λ d. absurd (false≢true (sym c ∙ d))) (λ d. refl),
+      in-sound p m (first-passed 0 _ _ f .0),
+      acknowledged-waits p m s room f c,
     )
 
-pub acknowledgement-octets : (m s room : List ℕ) → isAcknowledgement s ≡ true → message m s room .number ≡ 0
-    → OctetsAfter acknowledgedFlags 0 0 m (message m s room .memory)
-acknowledgement-octets m s room a e =
-    let h = acknowledged-memory m s room a e in
+pub acknowledgement-octets : (p : ℕ) (m s room : List ℕ) → isAcknowledgement s ≡ true → message p m s room .number ≡ 0
+    → OctetsAfter acknowledgedFlags 0 0 m (message p m s room .memory)
+acknowledgement-octets p m s room a e =
+    let h = acknowledged-memory p m s room a e in
     rw (h .0) (idled-octets whenAcknowledged acknowledgedFlags m (h .1) (h .2) (λ k hk. acknowledged-matches (inFlight m k)))
 
 -- an expiry that has the notification sent again leaves every mark
-pub again-marks : (m : List ℕ) → expiry m .number ≡ 20 → (k : ℕ) → k < entryCount → SameMarks m (expiry m .memory) k
+pub again-marks : (p : ℕ) (m : List ℕ) → expiry p m .number ≡ 20 → (k : ℕ) → k < entryCount → SameMarks m (expiry p m .memory) k
 unfolding expiry expiryChecks
-again-marks m =
-    call-either (λ o. o .number ≡ 20 → (k : ℕ) → k < entryCount → SameMarks m (o .memory) k) (expiryChecks m) (expired m) m []
+again-marks p m =
+    call-either (λ o. o .number ≡ 20 → (k : ℕ) → k < entryCount → SameMarks m (o .memory) k) (expiryChecks p m) (expired m) m []
     (λ e.
     expired-either (λ o. o .number ≡ 20 → (k : ℕ) → k < entryCount → SameMarks m (o .memory) k) m
-    (λ h z k hk. cell-marks m _ k (cell-setTimer m 1 (expiries m + 1) (opened m (first-passed 0 _ _ e .0) .long) k hk))
+    (λ h z k hk. cell-marks m _ k (cell-setTimer m 1 (expiries m + 1) (opened m (in-sound p m (first-passed 0 _ _ e .0)) .long) k hk))
     (λ z. absurd (omega arith)))
-    (λ f e h. absurd (omega (arith, e, first-most 8 (expiryChecks m) (omega arith))))
+    (λ f e h. absurd (omega (arith, e, first-most 8 (expiryChecks p m) (omega arith))))
 
 -- of the expiry that gives up
-pub given-up-memory : (m : List ℕ) → expiry m .number ≡ 21
-    → (expiry m ≡ numberOnly 21 (idled whenGivenUp m) []) × (sound m ≡ true) × (waiting m ≡ true)
+pub given-up-memory : (p : ℕ) (m : List ℕ) → expiry p m .number ≡ 21
+    → (expiry p m ≡ numberOnly 21 (idled whenGivenUp m) []) × (sound m ≡ true) × (waiting m ≡ true)
 unfolding expiry expiryChecks
-given-up-memory m =
-    call-either (λ o. o .number ≡ 21 → (o ≡ numberOnly 21 (idled whenGivenUp m) []) × (sound m ≡ true) × (waiting m ≡ true)) (expiryChecks m) (expired m) m []
+given-up-memory p m =
+    call-either (λ o. o .number ≡ 21 → (o ≡ numberOnly 21 (idled whenGivenUp m) []) × (sound m ≡ true) × (waiting m ≡ true)) (expiryChecks p m) (expired m) m []
     (λ e.
     let a = first-passed 0 _ _ e in
     let b = first-passed 7 _ _ (a .1) in
     expired-either (λ o. o .number ≡ 21 → (o ≡ numberOnly 21 (idled whenGivenUp m) []) × (sound m ≡ true) × (waiting m ≡ true)) m
     (λ h z. absurd (omega arith))
-    (λ z. (refl, a .0, b .0)))
-    (λ f e h. absurd (omega (arith, e, first-most 8 (expiryChecks m) (omega arith))))
+    (λ z. (refl, in-sound p m (a .0), b .0)))
+    (λ f e h. absurd (omega (arith, e, first-most 8 (expiryChecks p m) (omega arith))))
 
-pub given-up-octets : (m : List ℕ) → expiry m .number ≡ 21 → (expiry m .written ≡ []) × OctetsAfter givenUpFlags 0 0 m (expiry m .memory)
-given-up-octets m e =
-    let h = given-up-memory m e in
+pub given-up-octets : (p : ℕ) (m : List ℕ) → expiry p m .number ≡ 21 → (expiry p m .written ≡ []) × OctetsAfter givenUpFlags 0 0 m (expiry p m .memory)
+given-up-octets p m e =
+    let h = given-up-memory p m e in
     rw (h .0) (refl, idled-octets whenGivenUp givenUpFlags m (h .1) (h .2) (λ k hk. givenUp-matches (inFlight m k)))
 
 -- ---- by name: nothing is in flight any more, pending is what q says, and all else of every entry stays
@@ -212,15 +213,15 @@ idled-landed t q m f none s w =
     }
 
 -- an acknowledgement: what changed while waiting stays pending
-pub acknowledgement-leaves : (m s room : List ℕ) → isAcknowledgement s ≡ true → message m s room .number ≡ 0 → Landed (pending m) m (message m s room .memory)
+pub acknowledgement-leaves : (p : ℕ) (m s room : List ℕ) → isAcknowledgement s ≡ true → message p m s room .number ≡ 0 → Landed (pending m) m (message p m s room .memory)
 unfolding pendingAfter
-acknowledgement-leaves m s room a e =
-    let h = acknowledged-memory m s room a e in
+acknowledgement-leaves p m s room a e =
+    let h = acknowledged-memory p m s room a e in
     rw (h .0) (idled-landed whenAcknowledged (pending m) m (λ k. refl) none-acknowledged (h .1) (h .2))
 
 -- the fifth expiry: what was in flight is pending again
-pub given-up-leaves : (m : List ℕ) → expiry m .number ≡ 21 → Landed (λ k. pending m k || inFlight m k) m (expiry m .memory)
+pub given-up-leaves : (p : ℕ) (m : List ℕ) → expiry p m .number ≡ 21 → Landed (λ k. pending m k || inFlight m k) m (expiry p m .memory)
 unfolding pendingAfter
-given-up-leaves m e =
-    let h = given-up-memory m e in
+given-up-leaves p m e =
+    let h = given-up-memory p m e in
     rw (h .0) (idled-landed whenGivenUp (λ k. pending m k || inFlight m k) m (λ k. refl) none-given-up (h .1) (h .2))

@@ -1,19 +1,23 @@
 -- The two forms on octets: each test said clause by clause (RULES 23.2, 23.3, 23.6), memories that are just in form or just not, and a life in form B.
-use Prim.Native.Nat.{ℕ, _+_, _*_, _/_, _%_, _<_}
+use Prim.Native.Nat.{ℕ, _+_, _*_, _/_, _%_, _≤_, _<_}
 use native.Mathlib.Omega.{arith}
-use mathlib.Core.Path.{_≡_, refl, _∙_}
-use mathlib.Core.Bool.{Bool, true, false, _&&_}
+use mathlib.Core.Path.{_≡_, refl, sym, _∙_}
+use mathlib.Core.Logic.{_⊎_}
+use mathlib.Core.Bool.{Bool, true, false, _&&_, false≢true}
 use mathlib.Core.List.{List, [], _∷_, _++_, map}
 use lib.ListN.{length, take, drop, replicate}
-use borrow.Author.Tests.{ne-eqb}
+use borrow.Author.Tests.{eqb-true, eq-eqb, ne-eqb}
 use Rattle.meaning.specs.Octets.{octet, zeros}
-use Rattle.meaning.specs.Memory.{present, subscribed, pending, bit, flags, sound}
-use Rattle.meaning.specs.FormB.{inFormB, soundFormB, lent, message, localValue, build, expiry, makeFresh}
+use Rattle.meaning.specs.Memory.{present, subscribed, pending, inFlight, bit, flags, sound}
+use Rattle.meaning.specs.Profile.{isRelease16}
+use Rattle.meaning.specs.FormB.{inFormB, soundFormB, lent, message, localValue, build, expiry, freshChecks, makeFresh}
 use Rattle.meaning.specs.Moves.{noneInFlight, soundOld, forwardChecks, forward, backChecks, back}
 use Rattle.meaning.proofs.All.{all}
-use Rattle.meaning.proofs.Tests.{and-left, and-right, and-both}
+use Rattle.meaning.proofs.Tests.{and-left, and-right, and-both, not-true}
 use Rattle.meaning.proofs.Contents.{flag-bits}
-use Rattle.meaning.proofs.Spelt.{SoundSpelt, sound-spelt, spelt-sound}
+use Rattle.meaning.proofs.Bounded.{Bounds, bounds, within-bounds}
+use Rattle.meaning.proofs.Profiles.{in-sound, in-bounded, sound-in}
+use Rattle.meaning.proofs.Spelt.{lengthAt, SoundSpelt, sound-spelt, spelt-sound, body-measures}
 use Rattle.meaning.proofs.Flights.{flags-octet}
 use Rattle.meaning.proofs.Sendings.{Call, refresh, takeValue, buildIn, takeExpiry}
 use Rattle.meaning.proofs.Wording.{twoOctets, withLength, reading, subscribing, heldRecord, failedRecord, withCount}
@@ -25,20 +29,58 @@ use Rattle.meaning.proofs.Moved.{old-sound, none-out, all-in}
 
 -- ---- form B
 
+-- the bounds of Release 16: 36 entries of 7 octets in the list and in the block that runs, and of the flags of 000B the one that it is present
+pub record BoundsSpelt (m : List ℕ) : Type 0 where
+  pub list : lengthAt m 4 ≤ 252
+  pub runs : lengthAt m 18 ≤ 274
+  pub unmarked : octet m 44 ≡ 1
+
+bounds-spelt : (m : List ℕ) → sound m ≡ true → Bounds m → BoundsSpelt m
+unfolding flags bit
+bounds-spelt m s b =
+    let e = sound-spelt m s .entries 7 (omega arith) in
+    let none : (q : Bool) → (q ≡ true → subscribed m 7 ≡ true) → q ≡ false = λ q f. not-true q (λ h. false≢true (sym (b .unmarked) ∙ f h)) in
+    record {
+      list = omega (arith, body-measures m s 4 (omega arith), b .list);
+      runs = omega (arith, body-measures m s 18 (omega arith), b .runs);
+      unmarked = flags-octet m s 7 (omega arith) ∙ rw (sound-spelt m s .listMaxPresent, b .unmarked, none (pending m 7) (λ h. e .pendingOnly h .0), none (inFlight m 7) (λ h. e .inFlightOnly h .0));
+    }
+
+spelt-bounds : (m : List ℕ) → sound m ≡ true → BoundsSpelt m → Bounds m
+spelt-bounds m s b =
+    record {
+      list = omega (arith, body-measures m s 4 (omega arith), b .list);
+      runs = omega (arith, body-measures m s 18 (omega arith), b .runs);
+      unmarked = flag-bits m 7 .1 ∙ rw (b .unmarked);
+    }
+
 pub record FormSpelt (b : List ℕ) : Type 0 where
   pub long : length b ≡ 2101
-  pub first : octet b 0 ≡ 2
+  pub first : (octet b 0 ≡ 2) ⊎ (octet b 0 ≡ 3)
   pub memory : SoundSpelt (drop 1 b)
+  pub bounds : octet b 0 ≡ 3 → BoundsSpelt (drop 1 b)
 
 pub formB-spelt : (b : List ℕ) → soundFormB b ≡ true → FormSpelt b
-unfolding soundFormB
+unfolding soundFormB isRelease16
 formB-spelt b e =
     let f = form-opened b (and-left _ _ e) in
-    record { long = f .long; first = f .first; memory = sound-spelt (drop 1 b) (and-right (inFormB b) _ e) }
+    let m = drop 1 b in
+    let i = and-right (inFormB b) _ e in
+    let s = in-sound (octet b 0) m i in
+    record {
+      long = f .long;
+      first = f .first;
+      memory = sound-spelt m s;
+      bounds = λ r. bounds-spelt m s (bounds (octet b 0) m (in-bounded (octet b 0) m i) (eq-eqb (octet b 0) 3 r));
+    }
 
 pub spelt-formB : (b : List ℕ) → FormSpelt b → soundFormB b ≡ true
-unfolding soundFormB
-spelt-formB b f = and-both (form-closed b record { long = f .long; first = f .first }) (spelt-sound (drop 1 b) (f .memory))
+unfolding soundFormB isRelease16
+spelt-formB b f =
+    let m = drop 1 b in
+    let s = spelt-sound m (f .memory) in
+    and-both (form-closed b record { long = f .long; first = f .first })
+    (sound-in (octet b 0) m s (within-bounds (octet b 0) m (λ r. spelt-bounds m s (f .bounds (eqb-true (octet b 0) 3 r)))))
 
 -- ---- the old form: as form B without the octet ahead, and no flag of a cell worth 8 or more
 
@@ -124,16 +166,24 @@ lentLife b (c ∷ cs) =
     let o = givesLent b c in
     andThen o (lentLife (o .memory) cs)
 
--- nothing is taken of octets that are not in form B; made fresh they are
+-- nothing is taken of octets that are not in form B, and FF is no profile in which they could be made fresh
+unfoldable pub unformed-turns : List Turn
+unfolding command reading withLength twoOctets
+unformed-turns =
+    turn (command (reading 0x0003 ∷ [])) 1 [] ∷ turn (takeValue 0x00A4 (0 ∷ 120 ∷ [])) 1 [] ∷ turn (buildIn (zeros 1600)) 1 [] ∷ turn takeExpiry 1 [] ∷ turn refresh 18 [] ∷ []
+
+abbrev garbage : List ℕ
+garbage = replicate 2101 0xFF
+
+pub unformed-life : agrees (lentLife garbage (calls unformed-turns)) (record { results = results unformed-turns; left = garbage }) ≡ true
+unfolding all inFormB lent message localValue build expiry freshChecks makeFresh givesLent lentLife unformed-turns command agrees sameOctets sameResults reading withLength twoOctets
+unformed-life = refl
+
+-- made fresh they are
 unfoldable pub formed-turns : List Turn
 unfolding command acknowledgement reading subscribing withLength twoOctets heldRecord failedRecord withCount
 formed-turns =
-    turn (command (reading 0x0003 ∷ [])) 1 []
-    ∷ turn (takeValue 0x00A4 (0 ∷ 120 ∷ [])) 1 []
-    ∷ turn (buildIn (zeros 1600)) 1 []
-    ∷ turn takeExpiry 1 []
-    ∷ turn refresh 0 []
-    ∷ turn (command (subscribing 0x00A4 ∷ subscribing 0x0008 ∷ reading 0x0003 ∷ [])) 0 (2 ∷ 0x71 ∷ withLength (withCount (heldRecord 0x0003 (0 ∷ []) ∷ []) ++ withCount []))
+    turn (command (subscribing 0x00A4 ∷ subscribing 0x0008 ∷ reading 0x0003 ∷ [])) 0 (2 ∷ 0x71 ∷ withLength (withCount (heldRecord 0x0003 (0 ∷ []) ∷ []) ++ withCount []))
     ∷ turn (takeValue 0x00A4 (0 ∷ 120 ∷ [])) 0 []
     ∷ turn (buildIn (zeros 1600)) 0 (3 ∷ withLength (withCount (heldRecord 0x00A4 (0 ∷ 120 ∷ []) ∷ []) ++ withCount []))
     ∷ turn takeExpiry 20 []
@@ -142,8 +192,8 @@ formed-turns =
     ∷ turn (buildIn (zeros 1600)) 0 (3 ∷ withLength (withCount (heldRecord 0x0008 (four 1 2 3 4) ∷ []) ++ withCount []))
     ∷ []
 
-pub formed-life : agrees (lentLife (replicate 2101 0xFF) (calls formed-turns))
+pub formed-life : agrees (lentLife (makeFresh garbage 2 .memory) (calls formed-turns))
     (record { results = results formed-turns; left = 2 ∷ laid (with 6 (holding 0x0008 11 (four 1 2 3 4) 4) (with 17 (holding 0x00A4 3 (0 ∷ 120 ∷ []) 2) fresh-entries)) 1 0 })
     ≡ true
-unfolding all inFormB lent message localValue build expiry makeFresh givesLent lentLife formed-turns command acknowledgement agrees sameOctets sameResults reading subscribing withLength twoOctets heldRecord failedRecord withCount laid with fresh-entries
+unfolding all inFormB lent message localValue build expiry freshChecks makeFresh givesLent lentLife formed-turns command acknowledgement agrees sameOctets sameResults reading subscribing withLength twoOctets heldRecord failedRecord withCount laid with fresh-entries
 formed-life = refl

@@ -7,17 +7,19 @@ use mathlib.Core.Logic.{_≢_, _↔_, _⊎_, inl, inr, ⊎-elim}
 use mathlib.Core.Bool.{Bool, true, false, _&&_, _||_, not, or-true, false≢true}
 use mathlib.Core.List.{List, [], _∷_}
 use lib.ListN.{length}
-use lib.Dec.{eqb, leb}
+use lib.Dec.{eqb, leb, ltb}
 use borrow.Author.Tests.{leb-true, le-leb, eqb-true}
 use Rattle.meaning.specs.Octets.{octet, nonempty, every, below, implies, same}
-use Rattle.meaning.specs.Table.{Owner, port, free, within, row, rowAt, rows, place, placeIn, listed, byPort, entryCount}
+use Rattle.meaning.specs.Table.{Owner, port, free, within, row, rowAt, rows, place, placeIn, byPort, entryCount}
 use Rattle.meaning.specs.Block.{permits}
-use Rattle.meaning.specs.Memory.{cell, room, timer, body, present, subscribed, pending, inFlight, sound}
+use Rattle.meaning.specs.Memory.{cell, room, timer, body, present, subscribed, pending, inFlight}
+use Rattle.meaning.specs.Profile.{soundIn}
 use Rattle.meaning.specs.Calls.{Outcome, numberOnly, localPermitted, localChecks, localMemory, localValue, differs}
 use Rattle.meaning.proofs.Lists.{Each}
 use Rattle.meaning.proofs.Tests.{or-cases, and-left, and-right, and-both, not-true, implied, same-true, same-refl, below-at, first-passed, all-passing}
 use Rattle.meaning.proofs.Values.{permits-opened, permits-closed, free-spelt, octet-spelt}
-use Rattle.meaning.proofs.Places.{listed-place, cell-put-other, room-put-other, timer-put}
+use Rattle.meaning.proofs.Places.{cell-put-other, room-put-other, timer-put}
+use Rattle.meaning.proofs.Profiles.{in-sound}
 use Rattle.meaning.proofs.Sound.{opened}
 use Rattle.meaning.proofs.Checked.{call-done, call-passed}
 use Rattle.meaning.proofs.Kept.{local-opened, local-held}
@@ -88,8 +90,8 @@ all-places : below entryCount (λ k. implies (byPort (rowAt k .owner)) (among po
 unfolding below implies byPort rowAt rows
 all-places = refl
 
--- a listed name at a known place
-pub name-at : (n k : ℕ) → listed n ≡ true → place n ≡ k → n ≡ rowAt k .name
+-- a name of the table at a known place
+pub name-at : (n k : ℕ) → place n < entryCount → place n ≡ k → n ≡ rowAt k .name
 name-at n k l e = sym (place-name n l) ∙ ap (λ (j : ℕ). rowAt j .name) e
 
 -- empty, or permitted by the row
@@ -114,7 +116,7 @@ just a n h = omega (arith, h .0, h .1)
 -- ---- so it is done exactly then
 
 module _ (n : ℕ) (v : List ℕ) where
-  given-at : listed n ≡ true → among portPlaces (place n) ≡ true → Allowed (place n) v → Given n v
+  given-at : place n < entryCount → among portPlaces (place n) ≡ true → Allowed (place n) v → Given n v
   unfolding rowAt rows
   given-at l e a =
       let at : (k : ℕ) → place n ≡ k → Allowed k v = λ k p. subst (λ (j : ℕ). Allowed j v) p a in
@@ -134,17 +136,17 @@ module _ (n : ℕ) (v : List ℕ) where
   permitted-given : localPermitted n v ≡ true → Given n v
   permitted-given e =
       let l = local-opened n v e in
-      given-at (l .isListed)
-      (implied _ _ (below-at entryCount (λ k. implies (byPort (rowAt k .owner)) (among portPlaces k)) all-places (place n) (listed-place n (l .isListed))) (l .byThePort))
+      given-at (l .inTable)
+      (implied _ _ (below-at entryCount (λ k. implies (byPort (rowAt k .owner)) (among portPlaces k)) all-places (place n) (l .inTable)) (l .byThePort))
       (allowed (place n) v (l .allowed))
 
   -- a name whose place and owner are computed
-  named : (k : ℕ) (i : ℕ) → n ≡ i → (place i ≡ k) × (listed i ≡ true) × (byPort (rowAt k .owner) ≡ true) → Allowed k v → localPermitted n v ≡ true
+  named : (k : ℕ) (i : ℕ) → n ≡ i → (place i ≡ k) × (ltb k entryCount ≡ true) × (byPort (rowAt k .owner) ≡ true) → Allowed k v → localPermitted n v ≡ true
   unfolding localPermitted every
   named k i e h a = rw (e, h .0, h .1, h .2, allows k v a)
 
   given-permitted : Given n v → localPermitted n v ≡ true
-  unfolding place placeIn listed rowAt rows byPort
+  unfolding place placeIn rowAt rows byPort
   given-permitted (propagationDelay e o) = named 0 0x0001 e (refl, refl, refl) (map-or (λ h. any-row 0x0001 8 8 port v .1 (omega (arith, h), omega (arith, h))) o)
   given-permitted (tickGranularity e o) = named 6 0x0008 e (refl, refl, refl) (map-or (λ h. any-row 0x0008 4 4 port v .1 (omega (arith, h), omega (arith, h))) o)
   given-permitted (chassisSubtype e o) = named 13 0x00A0 e (refl, refl, refl) (map-or (octet-row 0x00A0 1 7 port v .1) o)
@@ -153,17 +155,17 @@ module _ (n : ℕ) (v : List ℕ) where
   given-permitted (portId e o) = named 16 0x00A3 e (refl, refl, refl) (map-or (any-row 0x00A3 1 255 port v .1) o)
   given-permitted (timeToLive e o) = named 17 0x00A4 e (refl, refl, refl) (map-or (λ h. any-row 0x00A4 2 2 port v .1 (omega (arith, h), omega (arith, h))) o)
 
-module _ (m : List ℕ) (n : ℕ) (v : List ℕ) (s : sound m ≡ true) where
-  local-passed : localValue m n v .number ≡ 0 → localPermitted n v ≡ true
+module _ (p : ℕ) (m : List ℕ) (n : ℕ) (v : List ℕ) (s : soundIn p m ≡ true) where
+  local-passed : localValue p m n v .number ≡ 0 → localPermitted n v ≡ true
   unfolding localValue localChecks
-  local-passed z = first-passed 11 _ _ (first-passed 0 _ _ (call-passed (localChecks m n v) _ m [] z) .1) .0
+  local-passed z = first-passed 11 _ _ (first-passed 0 _ _ (call-passed (localChecks p m n v) _ m [] z) .1) .0
 
-  local-memory : localPermitted n v ≡ true → localValue m n v ≡ numberOnly 0 (localMemory m (place n) v) []
+  local-memory : localPermitted n v ≡ true → localValue p m n v ≡ numberOnly 0 (localMemory m (place n) v) []
   unfolding localValue localChecks
-  local-memory p = call-done (localChecks m n v) _ m [] (all-passing (localChecks m n v) (s, (p, tt)))
+  local-memory q = call-done (localChecks p m n v) _ m [] (all-passing (localChecks p m n v) (s, (q, tt)))
 
   -- whatever else memory holds, waiting or not
-  pub local-given : (localValue m n v .number ≡ 0) ↔ Given n v
+  pub local-given : (localValue p m n v .number ≡ 0) ↔ Given n v
   local-given = (
     λ z. permitted-given n v (local-passed z),
     λ g. ap (λ (o : Outcome). o .number) (local-memory (given-permitted n v g)),
@@ -193,16 +195,17 @@ pending-spelt true s d D f = (λ e. inl refl, λ h. refl)
 pending-spelt false true d D f = (λ e. inr (refl, f .0 e), ⊎-elim (λ e. absurd (false≢true e)) (λ h. f .1 (h .1)))
 pending-spelt false false d D f = (λ e. absurd (false≢true e), ⊎-elim (λ e. e) (λ h. h .0))
 
-pub local-done : (m : List ℕ) (n : ℕ) (v : List ℕ) → sound m ≡ true → Given n v → LocalLeaves m (place n) v (localValue m n v .memory)
-local-done m n v s g =
+pub local-done : (p : ℕ) (m : List ℕ) (n : ℕ) (v : List ℕ) → soundIn p m ≡ true → Given n v → LocalLeaves m (place n) v (localValue p m n v .memory)
+local-done p m n v s g =
     let k = place n in
     let l = local-opened n v (given-permitted n v g) in
-    let hm = opened m s .long in
-    let hk = listed-place n (l .isListed) in
+    let z = in-sound p m s in
+    let hm = opened m z .long in
+    let hk = l .inTable in
     let hv = local-held (rowAt k) v (l .allowed) .1 in
-    let h = local-leaves m n v s l in
-    let q = local-marks-after m n v s l in
-    rw (local-memory m n v s (given-permitted n v g))
+    let h = local-leaves m n v z l in
+    let q = local-marks-after m n v z l in
+    rw (local-memory p m n v s (given-permitted n v g))
     record {
       presence = h .presence;
       value = h .value;

@@ -8,7 +8,8 @@ use lib.ListN.{length, length-append, List·getD-append}
 use borrow.Author.Tests.{le-leb}
 use Rattle.meaning.specs.Octets.{octet, at16, implies}
 use Rattle.meaning.specs.Checks.{passed, check, firstFailed}
-use Rattle.meaning.specs.Memory.{waiting, sound}
+use Rattle.meaning.specs.Memory.{waiting}
+use Rattle.meaning.specs.Profile.{soundIn}
 use Rattle.meaning.specs.Operation.{breakOf}
 use Rattle.meaning.specs.Calls.{done, call, isCommand, isAcknowledgement, lengthField, operations, opsOf, lengthRight, acknowledged, handled, fits, messageChecks, message}
 use Rattle.meaning.proofs.Lists.{part-append}
@@ -26,9 +27,9 @@ operations-longer : (s t : List ℕ) → 3 + lengthField s ≤ length s → oper
 unfolding operations
 operations-longer s t i = rw (field-longer s t i) (part-append s t 3 (lengthField s) i)
 
-pub trailing-ignored : (m s t room : List ℕ) → lengthRight s ≡ true → length (s ++ t) ≤ 2048 → message m (s ++ t) room ≡ message m s room
+pub trailing-ignored : (p : ℕ) (m s t room : List ℕ) → lengthRight s ≡ true → length (s ++ t) ≤ 2048 → message p m (s ++ t) room ≡ message p m s room
 unfolding message messageChecks handled opsOf isCommand isAcknowledgement
-trailing-ignored m s t room r h =
+trailing-ignored p m s t room r h =
     let o = length-right s r in
     let n : length (s ++ t) ≡ length s + length t = length-append s t in
     let l = field-longer s t (o .1) in
@@ -45,13 +46,13 @@ trailing-ignored m s t room r h =
     )
 
 -- what comes of an acknowledgement, whatever stands behind the 04
-acknowledgement-is : (m t room : List ℕ) → length (4 ∷ t) ≤ 2048
-    → message m (4 ∷ t) room
-    ≡ call (check 1 (sound m) (check 8 (waiting m) (check 7 (fits (length room) (acknowledged m)) passed))) (done (acknowledged m .reply) (acknowledged m .memory) room) m room
+acknowledgement-is : (p : ℕ) (m t room : List ℕ) → length (4 ∷ t) ≤ 2048
+    → message p m (4 ∷ t) room
+    ≡ call (check 1 (soundIn p m) (check 8 (waiting m) (check 7 (fits (length room) (acknowledged m)) passed))) (done (acknowledged m .reply) (acknowledged m .memory) room) m room
 unfolding message messageChecks call firstFailed handled isCommand isAcknowledgement implies
-acknowledgement-is m t room h =
+acknowledgement-is p m t room h =
     rw (le-leb (suc (length t)) 2048 h, le-leb 1 (suc (length t)) (omega arith))
-    (unlocated (breakOf (operations (4 ∷ t))) (sound m) (waiting m) (fits (length room) (acknowledged m)) (acknowledged m .reply) (acknowledged m .memory) m room)
+    (unlocated (breakOf p (operations (4 ∷ t))) (soundIn p m) (waiting m) (fits (length room) (acknowledged m)) (acknowledged m .reply) (acknowledged m .memory) m room)
 
-pub acknowledgement-alone : (m t room : List ℕ) → length (4 ∷ t) ≤ 2048 → message m (4 ∷ t) room ≡ message m (4 ∷ []) room
-acknowledgement-alone m t room h = acknowledgement-is m t room h ∙ sym (acknowledgement-is m [] room (omega arith))
+pub acknowledgement-alone : (p : ℕ) (m t room : List ℕ) → length (4 ∷ t) ≤ 2048 → message p m (4 ∷ t) room ≡ message p m (4 ∷ []) room
+acknowledgement-alone p m t room h = acknowledgement-is p m t room h ∙ sym (acknowledgement-is p m [] room (omega arith))

@@ -7,6 +7,7 @@ use lib.ListN.{take, replicate}
 use lib.IntN.{ℤ, pos, negsuc}
 use Rattle.meaning.specs.Octets.{zeros}
 use Rattle.meaning.specs.Memory.{fresh}
+use Rattle.meaning.specs.Profile.{release18}
 use Rattle.meaning.specs.Gates.{refused, notStarted, opens, gatesOf, gates, gatesNumber}
 use Rattle.meaning.proofs.All.{all}
 use Rattle.meaning.proofs.Edges.{four, times, one, two, right, exact, blockOf}
@@ -50,7 +51,7 @@ unfolding laid with full runningBlock one two right exact blockOf
 asked = fresh ∷ laid full 1 4 ∷ laid (with 18 (holding 0x8001 2 [] 470) full) 0 0 ∷ laid full 0 1 ∷ take 2099 (laid full 1 4) ∷ [] ∷ []
 
 pub gates-of-memory :
-    map (λ (m : List ℕ). gates m (pos 1)) asked ++ map (λ (m : List ℕ). gates m (negsuc 0)) asked
+    map (λ (m : List ℕ). gates release18 m (pos 1)) asked ++ map (λ (m : List ℕ). gates release18 m (negsuc 0)) asked
     ≡ refused 15 ∷ opens 0xFF 1 16777216 ∷ refused 15 ∷ refused 1 ∷ refused 1 ∷ refused 1 ∷ refused 15 ∷ notStarted ∷ refused 15 ∷ refused 1 ∷ refused 1 ∷ refused 1 ∷ []
 unfolding all laid with full runningBlock one two right exact blockOf asked
 gates-of-memory = refl

@@ -8,12 +8,13 @@ use mathlib.Core.Bool.{Bool, true, false, _&&_, _||_, not, cond, false≢true}
 use mathlib.Core.List.{List, [], _∷_}
 use lib.ListN.{length}
 use lib.Dec.{eqb}
-use borrow.Author.Tests.{eqb-true, eq-eqb, ne-eqb, le-leb, lt-ltb, le-ltb}
+use borrow.Author.Tests.{eqb-true, eq-eqb, ne-eqb, le-leb, lt-ltb, le-ltb, ltb-true}
 use Rattle.meaning.specs.Octets.{every, implies, nonempty}
 use Rattle.meaning.specs.Checks.{firstFailed, whenPassed}
-use Rattle.meaning.specs.Table.{Row, rowAt, rows, byPort, byController, place, listed, entryCount, memoryLength, commit}
+use Rattle.meaning.specs.Table.{Row, rowAt, rows, byPort, byController, place, entryCount, memoryLength, commit}
 use Rattle.meaning.specs.Block.{sums, permits, keeps, formAndFit}
 use Rattle.meaning.specs.Memory.{waiting, store, setMarks, setTimer, subscribed, pending, inFlight, expiries, fourPresent, timerSound, sound, fresh}
+use Rattle.meaning.specs.Profile.{listed, inMemory, sendable}
 use Rattle.meaning.specs.Operation.{Op, capabilities, read, set, subscribe, unsubscribe, selectiveRead, selectiveSubscribe, selectiveUnsubscribe, deleteEntry}
 use Rattle.meaning.specs.Step.{block, commits, permitted, setChecks, stored, setMemory, subscribeMemory, unsubscribeMemory, step, after}
 use Rattle.meaning.specs.Calls.{Outcome, numberOnly, call, Moment, whenSent, whenAcknowledged, whenGivenUp, inFlightAfter, turned, handled, carriedOut, acknowledged, isCommand, messageChecks, message, opsOf, localPermitted, differs, localMemory, localChecks, localValue, buildChecks, build, expired, expiryChecks, expiry, makeFresh}
@@ -64,12 +65,12 @@ committing m v e =
     }
 
 -- a value that is permitted may be stored, and what is stored is
-pub stored-permitted : (m : List ℕ) (k : ℕ) (v : List ℕ) → permitted m k v ≡ true
-    → (permits (rowAt k) (stored m k v) ≡ true) × (k ≡ commit → fourPresent m ≡ true)
+pub stored-permitted : (p : ℕ) (m : List ℕ) (k : ℕ) (v : List ℕ) → permitted p m k v ≡ true
+    → (permits (rowAt k) (stored p m k v) ≡ true) × (k ≡ commit → fourPresent m ≡ true)
 unfolding permitted stored
-stored-permitted m k v e = go (ℕ-discrete k commit)
+stored-permitted p m k v e = go (ℕ-discrete k commit)
   where
-    go : Dec (k ≡ commit) → (permits (rowAt k) (cond (eqb k commit) (block m) v) ≡ true) × (k ≡ commit → fourPresent m ≡ true)
+    go : Dec (k ≡ commit) → (permits (rowAt k) (cond (eqb k commit) (block m) (inMemory p k v)) ≡ true) × (k ≡ commit → fourPresent m ≡ true)
     go (yes q) =
         let c = committing m v (simp (eq-eqb k commit q) at e) in
         (simp (eq-eqb k commit q) (rw q (block-permitted (block m) (c .form))), λ _. c .four)
@@ -82,26 +83,28 @@ store-sound m k v S hk e four =
     put-sound m k true (subscribed m k) (pending m k) (inFlight m k) v S hk (permits-most (rowAt k) v e) (inl refl) (marks-of m k S hk) e four
 
 -- what the checks of a set say where they pass
-pub record Settable (m : List ℕ) (n : ℕ) (v : List ℕ) : Type 0 where
-  pub isListed : listed n ≡ true
+pub record Settable (p : ℕ) (m : List ℕ) (n : ℕ) (v : List ℕ) : Type 0 where
+  pub isListed : listed p n ≡ true
   pub controls : byController (rowAt (place n) .owner) ≡ true
-  pub allowed : permitted m (place n) v ≡ true
+  pub answerable : sendable p v ≡ true
+  pub allowed : permitted p m (place n) v ≡ true
 
-pub settable : (m : List ℕ) (n : ℕ) (v : List ℕ) → firstFailed (setChecks m n v) ≡ 0 → Settable m n v
+pub settable : (p : ℕ) (m : List ℕ) (n : ℕ) (v : List ℕ) → firstFailed (setChecks p m n v) ≡ 0 → Settable p m n v
 unfolding setChecks
-settable m n v e =
+settable p m n v e =
     let a = first-passed 0 _ _ e in
     let b = first-passed 0x6E _ _ (a .1) in
-    let c = first-passed 1 _ _ (b .1) in
-    record { isListed = a .0; controls = b .0; allowed = c .0 }
+    let c = first-passed 0x6E _ _ (b .1) in
+    let d = first-passed 1 _ _ (c .1) in
+    record { isListed = a .0; controls = b .0; answerable = c .0; allowed = d .0 }
 
-set-sound : (m : List ℕ) (n : ℕ) (v : List ℕ) → sound m ≡ true → sound (setMemory m n v) ≡ true
-set-sound m n v s =
-    set-either m n v (λ m′. sound m′ ≡ true)
+set-sound : (p : ℕ) (m : List ℕ) (n : ℕ) (v : List ℕ) → sound m ≡ true → sound (setMemory p m n v) ≡ true
+set-sound p m n v s =
+    set-either p m n v (λ m′. sound m′ ≡ true)
     (λ e.
-    let t = settable m n v e in
-    let p = stored-permitted m (place n) v (t .allowed) in
-    store-sound m (place n) (stored m (place n) v) (opened m s) (listed-place n (t .isListed)) (p .0) (p .1))
+    let t = settable p m n v e in
+    let q = stored-permitted p m (place n) v (t .allowed) in
+    store-sound m (place n) (stored p m (place n) v) (opened m s) (listed-place p n (t .isListed)) (q .0) (q .1))
     s
 
 -- ---- marks
@@ -112,46 +115,46 @@ subscribed-marks true true b e = e
 subscribed-marks true false b e = absurd (false≢true e)
 subscribed-marks false o b e = refl
 
-subscribe-sound : (m : List ℕ) (n : ℕ) → sound m ≡ true → sound (subscribeMemory m n) ≡ true
+subscribe-sound : (p : ℕ) (m : List ℕ) (n : ℕ) → sound m ≡ true → sound (subscribeMemory p m n) ≡ true
 unfolding subscribeMemory
-subscribe-sound m n s = go (listed n) refl
+subscribe-sound p m n s = go (listed p n) refl
   where
-    go : (b : Bool) → listed n ≡ b → sound (cond b (setMarks m (place n) true (pending m (place n)) (inFlight m (place n))) m) ≡ true
+    go : (b : Bool) → listed p n ≡ b → sound (cond b (setMarks m (place n) true (pending m (place n)) (inFlight m (place n))) m) ≡ true
     go true e =
         let S = opened m s in
         let k = place n in
-        let hk = listed-place n e in
+        let hk = listed-place p n e in
         let r = marks-of m k S hk in
         setMarks-sound m k true (pending m k) (inFlight m k) S hk
         record { due = subscribed-marks _ (subscribed m k) _ (r .due); out = subscribed-marks _ (subscribed m k) _ (r .out) }
     go false e = s
 
-unsubscribe-sound : (m : List ℕ) (n : ℕ) → sound m ≡ true → sound (unsubscribeMemory m n) ≡ true
+unsubscribe-sound : (p : ℕ) (m : List ℕ) (n : ℕ) → sound m ≡ true → sound (unsubscribeMemory p m n) ≡ true
 unfolding unsubscribeMemory implies
-unsubscribe-sound m n s = go (listed n) refl
+unsubscribe-sound p m n s = go (listed p n) refl
   where
-    go : (b : Bool) → listed n ≡ b → sound (cond b (setMarks m (place n) false false false) m) ≡ true
-    go true e = setMarks-sound m (place n) false false false (opened m s) (listed-place n e) record { due = refl; out = refl }
+    go : (b : Bool) → listed p n ≡ b → sound (cond b (setMarks m (place n) false false false) m) ≡ true
+    go true e = setMarks-sound m (place n) false false false (opened m s) (listed-place p n e) record { due = refl; out = refl }
     go false e = s
 
 -- ---- every operation, and every list of them
 
-pub step-sound : (m : List ℕ) (o : Op) → sound m ≡ true → sound (step m o) ≡ true
+pub step-sound : (p : ℕ) (m : List ℕ) (o : Op) → sound m ≡ true → sound (step p m o) ≡ true
 unfolding step
-step-sound m capabilities s = s
-step-sound m (read n) s = s
-step-sound m (set n v) s = set-sound m n v s
-step-sound m (subscribe n) s = subscribe-sound m n s
-step-sound m (unsubscribe n) s = unsubscribe-sound m n s
-step-sound m (selectiveRead n v) s = s
-step-sound m (selectiveSubscribe n v) s = s
-step-sound m (selectiveUnsubscribe n v) s = s
-step-sound m (deleteEntry n v) s = s
+step-sound p m capabilities s = s
+step-sound p m (read n) s = s
+step-sound p m (set n v) s = set-sound p m n v s
+step-sound p m (subscribe n) s = subscribe-sound p m n s
+step-sound p m (unsubscribe n) s = unsubscribe-sound p m n s
+step-sound p m (selectiveRead n v) s = s
+step-sound p m (selectiveSubscribe n v) s = s
+step-sound p m (selectiveUnsubscribe n v) s = s
+step-sound p m (deleteEntry n v) s = s
 
-pub after-sound : (m : List ℕ) (os : List Op) → sound m ≡ true → sound (after m os) ≡ true
+pub after-sound : (p : ℕ) (m : List ℕ) (os : List Op) → sound m ≡ true → sound (after p m os) ≡ true
 unfolding after
-after-sound m [] s = s
-after-sound m (o ∷ os) s = after-sound (step m o) os (step-sound m o s)
+after-sound p m [] s = s
+after-sound p m (o ∷ os) s = after-sound p (step p m o) os (step-sound p m o s)
 
 -- ---- a message
 
@@ -160,12 +163,12 @@ abbrev pub idled : Moment → List ℕ → List ℕ
 idled t m = setTimer (turned t entryCount m) 0 0
 
 -- a command leaves the memory after its operations, an acknowledgement that of what is acknowledged
-pub handled-either : (P : List ℕ → Type 0) (m s : List ℕ) → (isCommand s ≡ true → P (after m (opsOf s))) → (isCommand s ≡ false → P (idled whenAcknowledged m))
-    → P (handled m s .memory)
+pub handled-either : (p : ℕ) (P : List ℕ → Type 0) (m s : List ℕ) → (isCommand s ≡ true → P (after p m (opsOf p s))) → (isCommand s ≡ false → P (idled whenAcknowledged m))
+    → P (handled p m s .memory)
 unfolding handled carriedOut acknowledged
-handled-either P m s f g = go (isCommand s) refl
+handled-either p P m s f g = go (isCommand s) refl
   where
-    go : (b : Bool) → isCommand s ≡ b → P (cond b (carriedOut m (opsOf s)) (acknowledged m) .memory)
+    go : (b : Bool) → isCommand s ≡ b → P (cond b (carriedOut p m (opsOf p s)) (acknowledged m) .memory)
     go true e = f e
     go false e = g e
 
@@ -196,20 +199,20 @@ unfolding inFlightAfter
 none-given-up q i = refl
 
 -- the check of an acknowledgement that is taken
-pub acknowledged-waits : (m s room : List ℕ) → firstFailed (messageChecks m s (length room)) ≡ 0 → isCommand s ≡ false → waiting m ≡ true
+pub acknowledged-waits : (p : ℕ) (m s room : List ℕ) → firstFailed (messageChecks p m s (length room)) ≡ 0 → isCommand s ≡ false → waiting m ≡ true
 unfolding messageChecks
-acknowledged-waits m s room e c =
+acknowledged-waits p m s room e c =
     let known = first-passed 3 _ _ (first-passed 2 _ _ (first-passed 1 _ _ (first-passed 0 _ _ e .1) .1) .1) in
     let idle = first-passed 7 _ _ (first-passed 5 _ _ (first-passed 4 _ _ (known .1) .1) .1) in
     implied _ _ (idle .0) (rw c at (known .0))
 
-pub message-sound : (m s room : List ℕ) → sound m ≡ true → sound (message m s room .memory) ≡ true
+pub message-sound : (p : ℕ) (m s room : List ℕ) → sound m ≡ true → sound (message p m s room .memory) ≡ true
 unfolding message
-message-sound m s room h =
-    call-memory IsSound (messageChecks m s (length room)) _ m room h
+message-sound p m s room h =
+    call-memory IsSound (messageChecks p m s (length room)) _ m room h
     (λ e.
-    handled-either IsSound m s (λ c. after-sound m (opsOf s) h)
-    (λ c. idled-sound whenAcknowledged m none-acknowledged h (acknowledged-waits m s room e c)))
+    handled-either p IsSound m s (λ c. after-sound p m (opsOf p s) h)
+    (λ c. idled-sound whenAcknowledged m none-acknowledged h (acknowledged-waits p m s room e c)))
 
 -- ---- a local value
 
@@ -231,20 +234,20 @@ commit-not-port = refl
 
 -- what the check of a local value says where it passes
 pub record Local (n : ℕ) (v : List ℕ) : Type 0 where
-  pub isListed : listed n ≡ true
+  pub inTable : place n < entryCount
   pub byThePort : byPort (rowAt (place n) .owner) ≡ true
   pub allowed : (not (nonempty v) || permits (rowAt (place n)) v) ≡ true
 
 pub local-opened : (n : ℕ) (v : List ℕ) → localPermitted n v ≡ true → Local n v
 unfolding localPermitted
-local-opened n v e = record { isListed = every-at _ 0 e; byThePort = every-at _ 1 e; allowed = every-at _ 2 e }
+local-opened n v e = record { inTable = ltb-true _ _ (every-at _ 0 e); byThePort = every-at _ 1 e; allowed = every-at _ 2 e }
 
 local-sound : (m : List ℕ) (n : ℕ) (v : List ℕ) → sound m ≡ true → Local n v → sound (localMemory m (place n) v) ≡ true
 unfolding localMemory
 local-sound m n v s l =
     let S = opened m s in
     let k = place n in
-    let hk = listed-place n (l .isListed) in
+    let hk = l .inTable in
     let h = local-held (rowAt k) v (l .allowed) in
     let r = marks-of m k S hk in
     put-sound m k (nonempty v) (subscribed m k) (pending m k || (subscribed m k && differs m k v)) (inFlight m k) v S hk (h .1) (inr (l .byThePort))
@@ -252,10 +255,10 @@ local-sound m n v s l =
     (h .0)
     (λ e. absurd (false≢true (sym commit-not-port ∙ ap (λ (j : ℕ). byPort (rowAt j .owner)) (sym e) ∙ l .byThePort)))
 
-pub localValue-sound : (m : List ℕ) (n : ℕ) (v : List ℕ) → sound m ≡ true → sound (localValue m n v .memory) ≡ true
+pub localValue-sound : (p : ℕ) (m : List ℕ) (n : ℕ) (v : List ℕ) → sound m ≡ true → sound (localValue p m n v .memory) ≡ true
 unfolding localValue localChecks
-localValue-sound m n v s =
-    call-memory IsSound (localChecks m n v) _ m [] s
+localValue-sound p m n v s =
+    call-memory IsSound (localChecks p m n v) _ m [] s
     (λ e. local-sound m n v s (local-opened n v (first-passed 11 _ _ (first-passed 0 _ _ e .1) .0)))
 
 -- ---- a notification, an expiry, making it fresh
@@ -268,10 +271,10 @@ pub waits-now : (m : List ℕ) (n : ℕ) → Sound m → waiting (setTimer m 1 n
 unfolding waiting
 waits-now m n S = rw (timer-setTimer m 1 n (S .long))
 
-pub build-sound : (m room : List ℕ) → sound m ≡ true → sound (build m room .memory) ≡ true
+pub build-sound : (p : ℕ) (m room : List ℕ) → sound m ≡ true → sound (build p m room .memory) ≡ true
 unfolding build
-build-sound m room s =
-    call-memory IsSound (buildChecks m (length room)) _ m room s
+build-sound p m room s =
+    call-memory IsSound (buildChecks p m (length room)) _ m room s
     (λ e. turned-to whenSent entryCount (setTimer m 1 0) (omega arith) (waits-sound m 0 s (omega arith)) (waits-now m 0 (opened m s)) .isSound)
 
 abbrev againOr : List ℕ → Bool → Outcome
@@ -295,10 +298,10 @@ expired-either P m f g = go (decLe 4 (expiries m))
     go (yes h) = rw (expired-last m h) g
     go (no h) = rw (expired-again m (omega arith)) (f (omega arith))
 
-pub expiry-sound : (m : List ℕ) → sound m ≡ true → sound (expiry m .memory) ≡ true
+pub expiry-sound : (p : ℕ) (m : List ℕ) → sound m ≡ true → sound (expiry p m .memory) ≡ true
 unfolding expiry expiryChecks
-expiry-sound m s =
-    call-memory IsSound (expiryChecks m) (expired m) m [] s
+expiry-sound p m s =
+    call-memory IsSound (expiryChecks p m) (expired m) m [] s
     (λ e.
     expired-either (λ o. IsSound (o .memory)) m
     (λ h. waits-sound m (expiries m + 1) s (omega arith))

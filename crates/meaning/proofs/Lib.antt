@@ -3,6 +3,7 @@ pub mod All
 pub mod Lists
 pub mod Tests
 pub mod Places
+pub mod Profiles
 pub mod Contents
 pub mod Values
 pub mod Blocks
@@ -17,6 +18,7 @@ pub mod Sums
 pub mod Commit
 pub mod Running
 pub mod Stored
+pub mod Bounded
 pub mod Given
 pub mod Encode
 pub mod Breaks
@@ -36,6 +38,8 @@ pub mod Selective
 pub mod Ignored
 pub mod Notified
 pub mod ReadBack
+pub mod Release16
+pub mod Alike
 pub mod Refused
 pub mod Numbers
 pub mod Positions
@@ -58,3 +62,4 @@ pub mod Driven
 pub mod Formed
 pub mod Moved
 pub mod Forms
+pub mod Sixteens

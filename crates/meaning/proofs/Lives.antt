@@ -7,6 +7,7 @@ use lib.ListN.{replicate}
 use lib.Dec.{eqb}
 use Rattle.meaning.specs.Octets.{flat, zeros}
 use Rattle.meaning.specs.Memory.{fresh}
+use Rattle.meaning.specs.Profile.{release18}
 use Rattle.meaning.specs.Calls.{Outcome}
 use Rattle.meaning.proofs.All.{all}
 use Rattle.meaning.proofs.Sendings.{Call, refresh, takeMessage, takeValue, buildIn, takeExpiry, gives}
@@ -25,11 +26,11 @@ pub record Lived : Type 0 where
 abbrev pub andThen : Outcome → Lived → Lived
 andThen o l = record { results = record { number = o .number; octets = o .written } ∷ l .results; left = l .left }
 
-unfoldable pub lived : List ℕ → List Call → Lived
-lived m [] = record { results = []; left = m }
-lived m (c ∷ cs) =
-    let o = gives m c in
-    andThen o (lived (o .memory) cs)
+unfoldable pub lived : (p : ℕ) → List ℕ → List Call → Lived
+lived p m [] = record { results = []; left = m }
+lived p m (c ∷ cs) =
+    let o = gives p m c in
+    andThen o (lived p (o .memory) cs)
 
 -- whether two lives are alike, octet by octet. A statement over it is short also where it is false, which a list of 2,100 octets is not
 unfoldable pub sameOctets : List ℕ → List ℕ → Bool
@@ -126,7 +127,7 @@ controlled-entries =
     (with 5 (holding 0x0007 1 exact 8)
     (with 18 (holding 0x8001 1 (blockOf right (four 0 0 0 2) (one ++ two) exact) 470) fresh-entries)))))
 
-pub controlled-life : agrees (lived fresh (calls controlled)) (record { results = results controlled; left = laid controlled-entries 0 0 }) ≡ true
+pub controlled-life : agrees (lived release18 fresh (calls controlled)) (record { results = results controlled; left = laid controlled-entries 0 0 }) ≡ true
 unfolding all gives agrees sameOctets sameResults lived controlled command subscribing setting reading withLength twoOctets heldRecord shortRecord failedRecord withCount one two times right exact blockOf laid with fresh-entries controlled-entries
 controlled-life = refl
 
@@ -176,7 +177,7 @@ reported-entries =
     (with 14 (holding 0x00A1 2 [] 255)
     (with 16 (holding 0x00A3 1 (7 ∷ 8 ∷ 9 ∷ []) 255) (with 17 (holding 0x00A4 1 (0 ∷ 121 ∷ []) 2) fresh-entries)))
 
-pub reported-life : agrees (lived fresh (calls reported)) (record { results = results reported; left = laid reported-entries 0 0 }) ≡ true
+pub reported-life : agrees (lived release18 fresh (calls reported)) (record { results = results reported; left = laid reported-entries 0 0 }) ≡ true
 unfolding all gives agrees sameOctets sameResults lived reported command acknowledgement reading subscribing unsubscribing withLength twoOctets heldRecord failedRecord withCount laid with fresh-entries reported-entries
 reported-life = refl
 
@@ -220,21 +221,21 @@ lost-entries =
     (with 13 (holding 0x00A0 7 (6 ∷ []) 1)
     (with 14 (holding 0x00A1 15 (8 ∷ []) 255) (with 17 (holding 0x00A4 3 (0 ∷ 120 ∷ []) 2) fresh-entries))))
 
-pub lost-life : agrees (lived fresh (calls lost)) (record { results = results lost; left = laid lost-entries 1 0 }) ≡ true
+pub lost-life : agrees (lived release18 fresh (calls lost)) (record { results = results lost; left = laid lost-entries 1 0 }) ≡ true
 unfolding all gives agrees sameOctets sameResults lived lost command acknowledgement setting subscribing unsubscribing withLength twoOctets heldRecord shortRecord failedRecord withCount laid with fresh-entries lost-entries
 lost-life = refl
 
 -- ---- made fresh
 
 -- whatever was there, a notification that waits too
-pub fresh-life : agrees (lived (laid full 1 4) (refresh ∷ [])) (record { results = record { number = 0; octets = [] } ∷ []; left = laid fresh-entries 0 0 }) ≡ true
+pub fresh-life : agrees (lived release18 (laid full 1 4) (refresh ∷ [])) (record { results = record { number = 0; octets = [] } ∷ []; left = laid fresh-entries 0 0 }) ≡ true
 unfolding all gives agrees sameOctets sameResults lived laid with fresh-entries full runningBlock one two right exact blockOf
 fresh-life = refl
 
 -- ---- refusals
 
 -- memory that is not sound: none of it
-pub unsound-life : agrees (lived [] (refresh ∷ takeMessage (1 ∷ 0 ∷ 1 ∷ 1 ∷ []) (zeros 64) ∷ takeValue 0x0008 (four 0 0 0 0) ∷ buildIn (zeros 1600) ∷ takeExpiry ∷ []))
+pub unsound-life : agrees (lived release18 [] (refresh ∷ takeMessage (1 ∷ 0 ∷ 1 ∷ 1 ∷ []) (zeros 64) ∷ takeValue 0x0008 (four 0 0 0 0) ∷ buildIn (zeros 1600) ∷ takeExpiry ∷ []))
     (record { results = replicate 5 (record { number = 1; octets = [] }); left = [] })
     ≡ true
 unfolding all gives agrees sameOctets sameResults lived
@@ -268,7 +269,7 @@ unfoldable pub unserved-entries : List LaidEntry
 unfolding fresh-entries with two times
 unserved-entries = with 1 (holding 0x0003 1 (1 ∷ []) 1) (with 4 (holding 0x0006 1 (times 37 two) 448) (with 17 (holding 0x00A4 2 [] 2) fresh-entries))
 
-pub unserved-life : agrees (lived fresh (calls unserved)) (record { results = results unserved; left = laid unserved-entries 0 0 }) ≡ true
+pub unserved-life : agrees (lived release18 fresh (calls unserved)) (record { results = results unserved; left = laid unserved-entries 0 0 }) ≡ true
 unfolding all gives agrees sameOctets sameResults lived unserved command subscribing setting reading likeSet withLength twoOctets heldRecord shortRecord failedRecord withCount two times laid with fresh-entries unserved-entries
 unserved-life = refl
 
@@ -295,7 +296,7 @@ refused =
     ∷ turn (takeMessage (1 ∷ 0 ∷ 1 ∷ 1 ∷ 9 ∷ 9 ∷ []) (zeros 64)) 0 (2 ∷ 0x70 ∷ 0 ∷ 38 ∷ tableNames)
     ∷ []
 
-pub refused-life : agrees (lived fresh (calls refused)) (record { results = results refused; left = laid fresh-entries 0 0 }) ≡ true
+pub refused-life : agrees (lived release18 fresh (calls refused)) (record { results = results refused; left = laid fresh-entries 0 0 }) ≡ true
 unfolding all gives agrees sameOctets sameResults lived refused tableNames laid fresh-entries
 refused-life = refl
 
@@ -304,7 +305,7 @@ unfoldable pub repeated : ℕ → List ℕ → Call
 unfolding twoOctets withLength times
 repeated n o = takeMessage (1 ∷ withLength (times n o)) (zeros 4096)
 
-pub counts-life : map (λ (c : Call). gives fresh c .number) (repeated 255 (reading 2) ∷ repeated 256 (reading 2) ∷ repeated 255 (reading 3) ∷ repeated 256 (reading 3)
+pub counts-life : map (λ (c : Call). gives release18 fresh c .number) (repeated 255 (reading 2) ∷ repeated 256 (reading 2) ∷ repeated 255 (reading 3) ∷ repeated 256 (reading 3)
     ∷ repeated 255 (setting 2 [])
     ∷ repeated 256 (setting 2 [])
     ∷ repeated 255 (setting 3 (1 ∷ []))

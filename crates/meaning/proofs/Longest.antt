@@ -7,6 +7,7 @@ use lib.ListN.{length}
 use Rattle.meaning.specs.Octets.{be16, flat, zeros}
 use Rattle.meaning.specs.Wire.{notificationMost}
 use Rattle.meaning.specs.Memory.{sound, fresh}
+use Rattle.meaning.specs.Profile.{release18}
 use Rattle.meaning.specs.Calls.{notification}
 use Rattle.meaning.proofs.All.{all}
 use Rattle.meaning.proofs.Sendings.{Call, takeMessage, takeValue, gives, afterCalls}
@@ -28,6 +29,6 @@ fullest =
     ∷ takeValue 0x00A4 (zeros 2)
     ∷ []
 
-pub notification-reached : (sound (afterCalls fresh fullest) ≡ true) × (length (notification (afterCalls fresh fullest)) ≡ notificationMost)
+pub notification-reached : (sound (afterCalls release18 fresh fullest) ≡ true) × (length (notification release18 (afterCalls release18 fresh fullest)) ≡ notificationMost)
 unfolding all gives afterCalls fullest names
 notification-reached = (refl, refl)

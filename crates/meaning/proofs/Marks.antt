@@ -11,8 +11,9 @@ use lib.Dec.{leb}
 use borrow.Author.Tests.{leb-true, eqb-true, not-false}
 use Rattle.meaning.specs.Octets.{same, nonempty, below, implies}
 use Rattle.meaning.specs.Checks.{firstFailed}
-use Rattle.meaning.specs.Table.{rowAt, rows, place, listed, byPort, entryCount}
+use Rattle.meaning.specs.Table.{rowAt, rows, place, byPort, entryCount}
 use Rattle.meaning.specs.Memory.{cell, room, timer, size, body, flags, put, store, setMarks, present, subscribed, pending, inFlight, sound}
+use Rattle.meaning.specs.Profile.{listed}
 use Rattle.meaning.specs.Step.{stored, setChecks, setMemory, subscribeMemory, unsubscribeMemory}
 use Rattle.meaning.specs.Calls.{differs, localMemory}
 use Rattle.meaning.proofs.Tests.{same-true, same-refl, implied, below-at}
@@ -39,18 +40,18 @@ module _ (m : List ℕ) (k : ℕ) (p s q i : Bool) (v : List ℕ) (S : Sound m) 
 
 -- ---- a set leaves every mark (RULES 11.12)
 
-pub set-marks : (m : List ℕ) (n : ℕ) (v : List ℕ) → sound m ≡ true → (j : ℕ) → j < entryCount → SameMarks m (setMemory m n v) j
+pub set-marks : (p : ℕ) (m : List ℕ) (n : ℕ) (v : List ℕ) → sound m ≡ true → (j : ℕ) → j < entryCount → SameMarks m (setMemory p m n v) j
 unfolding store
-set-marks m n v s j hj =
-    set-either m n v (λ m′. SameMarks m m′ j) (λ e. put-there e (ℕ-discrete j (place n))) (cell-marks m m j refl)
+set-marks p m n v s j hj =
+    set-either p m n v (λ m′. SameMarks m m′ j) (λ e. put-there e (ℕ-discrete j (place n))) (cell-marks m m j refl)
   where
-    put-there : firstFailed (setChecks m n v) ≡ 0 → Dec (j ≡ place n) → SameMarks m (store m (place n) (stored m (place n) v)) j
+    put-there : firstFailed (setChecks p m n v) ≡ 0 → Dec (j ≡ place n) → SameMarks m (store m (place n) (stored p m (place n) v)) j
     put-there e d =
-        let t = settable m n v e in
+        let t = settable p m n v e in
         let k = place n in
-        let w = stored m k v in
-        let hk = listed-place n (t .isListed) in
-        let hv = permits-most (rowAt k) w (stored-permitted m k v (t .allowed) .0) in
+        let w = stored p m k v in
+        let hk = listed-place p n (t .isListed) in
+        let hv = permits-most (rowAt k) w (stored-permitted p m k v (t .allowed) .0) in
         let at : Dec (j ≡ k) → SameMarks m (put m k (flags true (subscribed m k) (pending m k) (inFlight m k)) w) j =
         elim [
           | yes y ↦ rw y (put-marks m k true (subscribed m k) (pending m k) (inFlight m k) w (opened m s) hk hv)
@@ -60,21 +61,21 @@ set-marks m n v s j hj =
 
 -- ---- subscribe and unsubscribe (RULES 11.21, 11.22)
 
-pub subscribe-marks : (m : List ℕ) (n : ℕ) → sound m ≡ true → listed n ≡ true → Marked (subscribeMemory m n) (place n) true (pending m (place n)) (inFlight m (place n))
+pub subscribe-marks : (p : ℕ) (m : List ℕ) (n : ℕ) → sound m ≡ true → listed p n ≡ true → Marked (subscribeMemory p m n) (place n) true (pending m (place n)) (inFlight m (place n))
 unfolding subscribeMemory
-subscribe-marks m n s e = rw e (setMarks-marks m (place n) true (pending m (place n)) (inFlight m (place n)) (opened m s) (listed-place n e))
+subscribe-marks p m n s e = rw e (setMarks-marks m (place n) true (pending m (place n)) (inFlight m (place n)) (opened m s) (listed-place p n e))
 
-pub unsubscribe-marks : (m : List ℕ) (n : ℕ) → sound m ≡ true → listed n ≡ true → Marked (unsubscribeMemory m n) (place n) false false false
+pub unsubscribe-marks : (p : ℕ) (m : List ℕ) (n : ℕ) → sound m ≡ true → listed p n ≡ true → Marked (unsubscribeMemory p m n) (place n) false false false
 unfolding unsubscribeMemory
-unsubscribe-marks m n s e = rw e (setMarks-marks m (place n) false false false (opened m s) (listed-place n e))
+unsubscribe-marks p m n s e = rw e (setMarks-marks m (place n) false false false (opened m s) (listed-place p n e))
 
-pub subscribe-others : (m : List ℕ) (n : ℕ) → sound m ≡ true → listed n ≡ true → (j : ℕ) → j ≢ place n → SameMarks m (subscribeMemory m n) j
+pub subscribe-others : (p : ℕ) (m : List ℕ) (n : ℕ) → sound m ≡ true → listed p n ≡ true → (j : ℕ) → j ≢ place n → SameMarks m (subscribeMemory p m n) j
 unfolding subscribeMemory
-subscribe-others m n s e j ne = rw e (setMarks-marks-other m (place n) true (pending m (place n)) (inFlight m (place n)) (opened m s) (listed-place n e) j ne)
+subscribe-others p m n s e j ne = rw e (setMarks-marks-other m (place n) true (pending m (place n)) (inFlight m (place n)) (opened m s) (listed-place p n e) j ne)
 
-pub unsubscribe-others : (m : List ℕ) (n : ℕ) → sound m ≡ true → listed n ≡ true → (j : ℕ) → j ≢ place n → SameMarks m (unsubscribeMemory m n) j
+pub unsubscribe-others : (p : ℕ) (m : List ℕ) (n : ℕ) → sound m ≡ true → listed p n ≡ true → (j : ℕ) → j ≢ place n → SameMarks m (unsubscribeMemory p m n) j
 unfolding unsubscribeMemory
-unsubscribe-others m n s e j ne = rw e (setMarks-marks-other m (place n) false false false (opened m s) (listed-place n e) j ne)
+unsubscribe-others p m n s e j ne = rw e (setMarks-marks-other m (place n) false false false (opened m s) (listed-place p n e) j ne)
 
 -- all but the marks of one entry: presence and value of each, every octet of the others, every room and the timer
 pub record MarksOnly (m : List ℕ) (k : ℕ) (m′ : List ℕ) : Type 0 where
@@ -94,18 +95,18 @@ marks-only m k s q i S hk =
       sameTimer = timer-setMarks m k s q i S hk;
     }
 
-pub subscribe-leaves : (m : List ℕ) (n : ℕ) → sound m ≡ true → listed n ≡ true → MarksOnly m (place n) (subscribeMemory m n)
+pub subscribe-leaves : (p : ℕ) (m : List ℕ) (n : ℕ) → sound m ≡ true → listed p n ≡ true → MarksOnly m (place n) (subscribeMemory p m n)
 unfolding subscribeMemory
-subscribe-leaves m n s e = rw e (marks-only m (place n) true (pending m (place n)) (inFlight m (place n)) (opened m s) (listed-place n e))
+subscribe-leaves p m n s e = rw e (marks-only m (place n) true (pending m (place n)) (inFlight m (place n)) (opened m s) (listed-place p n e))
 
-pub unsubscribe-leaves : (m : List ℕ) (n : ℕ) → sound m ≡ true → listed n ≡ true → MarksOnly m (place n) (unsubscribeMemory m n)
+pub unsubscribe-leaves : (p : ℕ) (m : List ℕ) (n : ℕ) → sound m ≡ true → listed p n ≡ true → MarksOnly m (place n) (unsubscribeMemory p m n)
 unfolding unsubscribeMemory
-unsubscribe-leaves m n s e = rw e (marks-only m (place n) false false false (opened m s) (listed-place n e))
+unsubscribe-leaves p m n s e = rw e (marks-only m (place n) false false false (opened m s) (listed-place p n e))
 
 -- nothing for other names (RULES 11.24)
-pub unlisted-nothing : (m : List ℕ) (n : ℕ) → listed n ≡ false → (subscribeMemory m n ≡ m) × (unsubscribeMemory m n ≡ m)
+pub unlisted-nothing : (p : ℕ) (m : List ℕ) (n : ℕ) → listed p n ≡ false → (subscribeMemory p m n ≡ m) × (unsubscribeMemory p m n ≡ m)
 unfolding subscribeMemory unsubscribeMemory
-unlisted-nothing m n e = (rw e, rw e)
+unlisted-nothing p m n e = (rw e, rw e)
 
 -- ---- a local value: pending if it was, or if the name is subscribed and the value or its presence differs; in flight as it was
 
@@ -113,13 +114,13 @@ pub local-marks-after : (m : List ℕ) (n : ℕ) (v : List ℕ) → sound m ≡ 
     → Marked (localMemory m (place n) v) (place n) (subscribed m (place n)) (pending m (place n) || (subscribed m (place n) && differs m (place n) v)) (inFlight m (place n))
 unfolding localMemory
 local-marks-after m n v s l =
-    put-marks m (place n) (nonempty v) (subscribed m (place n)) _ (inFlight m (place n)) v (opened m s) (listed-place n (l .isListed)) (local-held (rowAt (place n)) v (l .allowed) .1)
+    put-marks m (place n) (nonempty v) (subscribed m (place n)) _ (inFlight m (place n)) v (opened m s) (l .inTable) (local-held (rowAt (place n)) v (l .allowed) .1)
 
 -- every other entry's marks stay
 pub local-marks-others : (m : List ℕ) (n : ℕ) (v : List ℕ) → sound m ≡ true → Local n v → (j : ℕ) → j < entryCount → j ≢ place n → SameMarks m (localMemory m (place n) v) j
 unfolding localMemory
 local-marks-others m n v s l j hj ne =
-    put-marks-other m (place n) (nonempty v) (subscribed m (place n)) _ (inFlight m (place n)) v (opened m s) (listed-place n (l .isListed))
+    put-marks-other m (place n) (nonempty v) (subscribed m (place n)) _ (inFlight m (place n)) v (opened m s) (l .inTable)
     (local-held (rowAt (place n)) v (l .allowed) .1) j hj ne
 
 -- no value that the port sets is empty

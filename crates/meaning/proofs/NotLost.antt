@@ -11,16 +11,20 @@ use lib.ListN.{length}
 use lib.Dec.{eqb}
 use borrow.Author.Tests.{eq-eqb}
 use Rattle.meaning.specs.Octets.{zeros}
-use Rattle.meaning.specs.Table.{rowAt, place, listed, entryCount}
+use Rattle.meaning.specs.Table.{rowAt, place, entryCount}
 use Rattle.meaning.specs.Memory.{waiting, pending, inFlight, sound, fresh}
+use Rattle.meaning.specs.Profile.{listed, release18, soundIn}
 use Rattle.meaning.specs.Operation.{Op, capabilities, read, set, subscribe, unsubscribe, selectiveRead, selectiveSubscribe, selectiveUnsubscribe, deleteEntry}
 use Rattle.meaning.specs.Step.{step, after, subscribeMemory, unsubscribeMemory}
 use Rattle.meaning.specs.Calls.{isAcknowledgement, opsOf, messageChecks, message, localMemory, localChecks, localValue, build, expiry}
 use Rattle.meaning.proofs.All.{all}
 use Rattle.meaning.proofs.Tests.{and-left, and-right, and-both, or-left, or-right, neither, denied, first-passed}
+use Rattle.meaning.proofs.Places.{listed-place}
+use Rattle.meaning.proofs.Bounded.{message-in, localValue-in, build-in, expiry-in}
+use Rattle.meaning.proofs.Profiles.{in-sound}
 use Rattle.meaning.proofs.Turned.{SameMarks}
 use Rattle.meaning.proofs.Checked.{call-memory}
-use Rattle.meaning.proofs.Kept.{step-sound, Local, local-opened, handled-either, message-sound, localValue-sound, build-sound, expiry-sound}
+use Rattle.meaning.proofs.Kept.{step-sound, Local, local-opened, handled-either}
 use Rattle.meaning.proofs.Marks.{set-marks, subscribe-marks, subscribe-others, unsubscribe-others, unlisted-nothing, local-marks-after, local-marks-others}
 use Rattle.meaning.proofs.Given.{name-at}
 use Rattle.meaning.proofs.Accepted.{message-passed}
@@ -53,30 +57,30 @@ unsubscribes n [] = false
 unsubscribes n (o ∷ os) = releases n o || unsubscribes n os
 
 -- the calls that may let a name go: making fresh, a message of type 04, one that unsubscribes it
-unfoldable pub letsGo : ℕ → Call → Bool
-letsGo n refresh = true
-letsGo n (takeMessage s room) = isAcknowledgement s || unsubscribes n (opsOf s)
-letsGo n (takeValue k v) = false
-letsGo n (buildIn room) = false
-letsGo n takeExpiry = false
+unfoldable pub letsGo : (p : ℕ) → ℕ → Call → Bool
+letsGo p n refresh = true
+letsGo p n (takeMessage s room) = isAcknowledgement s || unsubscribes n (opsOf p s)
+letsGo p n (takeValue k v) = false
+letsGo p n (buildIn room) = false
+letsGo p n takeExpiry = false
 
 -- some calls without such
-unfoldable pub holdsOn : ℕ → List Call → Bool
-holdsOn n [] = true
-holdsOn n (c ∷ cs) = not (letsGo n c) && holdsOn n cs
+unfoldable pub holdsOn : (p : ℕ) → ℕ → List Call → Bool
+holdsOn p n [] = true
+holdsOn p n (c ∷ cs) = not (letsGo p n c) && holdsOn p n cs
 
 -- at every moment: before the calls, between them and behind them
-abbrev pub AlwaysUntold : List ℕ → ℕ → List Call → Type 0
-AlwaysUntold m k [] = Untold m k
-AlwaysUntold m k (c ∷ cs) = Untold m k × AlwaysUntold (gives m c .memory) k cs
+abbrev pub AlwaysUntold : (p : ℕ) → List ℕ → ℕ → List Call → Type 0
+AlwaysUntold p m k [] = Untold m k
+AlwaysUntold p m k (c ∷ cs) = Untold m k × AlwaysUntold p (gives p m c .memory) k cs
 
 -- of the name at place k, which the memory m has still to tell or to have acknowledged, after some calls
-pub record NotLost (m : List ℕ) (k : ℕ) (cs : List Call) : Type 0 where
-  pub always : AlwaysUntold m k cs
-  pub onceGivenUp : expiry (afterCalls m cs) .number ≡ 21 → pending (expiry (afterCalls m cs) .memory) k ≡ true
-  pub whileIdle : waiting (afterCalls m cs) ≡ false → pending (afterCalls m cs) k ≡ true
-  pub toldAgain : waiting (afterCalls m cs) ≡ false → (room : List ℕ) → 1600 ≤ length room
-      → (build (afterCalls m cs) room .number ≡ 0) × (tells (build (afterCalls m cs) room .written) (rowAt k .name) ≡ true)
+pub record NotLost (p : ℕ) (m : List ℕ) (k : ℕ) (cs : List Call) : Type 0 where
+  pub always : AlwaysUntold p m k cs
+  pub onceGivenUp : expiry p (afterCalls p m cs) .number ≡ 21 → pending (expiry p (afterCalls p m cs) .memory) k ≡ true
+  pub whileIdle : waiting (afterCalls p m cs) ≡ false → pending (afterCalls p m cs) k ≡ true
+  pub toldAgain : waiting (afterCalls p m cs) ≡ false → (room : List ℕ) → 1600 ≤ length room
+      → (build p (afterCalls p m cs) room .number ≡ 0) × (tells (build p (afterCalls p m cs) room .written) (rowAt k .name) ≡ true)
 
 -- ---- an operation
 
@@ -91,58 +95,58 @@ still : (m m′ : List ℕ) (k : ℕ) → Same m m′ k → Untold m k → Untol
 still m m′ k e (inl u) = inl (e .0 ∙ u)
 still m m′ k e (inr u) = inr (e .1 ∙ u)
 
-subscribe-same : (m : List ℕ) (n k : ℕ) → sound m ≡ true → k < entryCount → Same m (subscribeMemory m n) k
-subscribe-same m n k s hk = go (listed n) refl
+subscribe-same : (p : ℕ) (m : List ℕ) (n k : ℕ) → sound m ≡ true → k < entryCount → Same m (subscribeMemory p m n) k
+subscribe-same p m n k s hk = go (listed p n) refl
   where
-    at : listed n ≡ true → Dec (k ≡ place n) → Same m (subscribeMemory m n) k
-    at l (yes y) = rw y (let e = subscribe-marks m n s l in (e .flight, e .pendency))
-    at l (no ne) = marks-same m _ k (subscribe-others m n s l k ne)
+    at : listed p n ≡ true → Dec (k ≡ place n) → Same m (subscribeMemory p m n) k
+    at l (yes y) = rw y (let e = subscribe-marks p m n s l in (e .flight, e .pendency))
+    at l (no ne) = marks-same m _ k (subscribe-others p m n s l k ne)
 
-    go : (b : Bool) → listed n ≡ b → Same m (subscribeMemory m n) k
+    go : (b : Bool) → listed p n ≡ b → Same m (subscribeMemory p m n) k
     go true l = at l (ℕ-discrete k (place n))
-    go false l = rw (unlisted-nothing m n l .0) (refl, refl)
+    go false l = rw (unlisted-nothing p m n l .0) (refl, refl)
 
-unsubscribe-same : (m : List ℕ) (n k : ℕ) → sound m ≡ true → k < entryCount → eqb n (rowAt k .name) ≡ false → Same m (unsubscribeMemory m n) k
-unsubscribe-same m n k s hk d = go (listed n) refl
+unsubscribe-same : (p : ℕ) (m : List ℕ) (n k : ℕ) → sound m ≡ true → k < entryCount → eqb n (rowAt k .name) ≡ false → Same m (unsubscribeMemory p m n) k
+unsubscribe-same p m n k s hk d = go (listed p n) refl
   where
-    go : (b : Bool) → listed n ≡ b → Same m (unsubscribeMemory m n) k
-    go true l = marks-same m _ k (unsubscribe-others m n s l k (λ y. false≢true (sym d ∙ eq-eqb n (rowAt k .name) (name-at n k l (sym y)))))
-    go false l = rw (unlisted-nothing m n l .1) (refl, refl)
+    go : (b : Bool) → listed p n ≡ b → Same m (unsubscribeMemory p m n) k
+    go true l = marks-same m _ k (unsubscribe-others p m n s l k (λ y. false≢true (sym d ∙ eq-eqb n (rowAt k .name) (name-at n k (listed-place p n l) (sym y)))))
+    go false l = rw (unlisted-nothing p m n l .1) (refl, refl)
 
-step-same : (m : List ℕ) (o : Op) (k : ℕ) → sound m ≡ true → k < entryCount → releases (rowAt k .name) o ≡ false → Same m (step m o) k
+step-same : (p : ℕ) (m : List ℕ) (o : Op) (k : ℕ) → sound m ≡ true → k < entryCount → releases (rowAt k .name) o ≡ false → Same m (step p m o) k
 unfolding step releases
-step-same m capabilities k s hk d = (refl, refl)
-step-same m (read n) k s hk d = (refl, refl)
-step-same m (set n v) k s hk d = marks-same m _ k (set-marks m n v s k hk)
-step-same m (subscribe n) k s hk d = subscribe-same m n k s hk
-step-same m (unsubscribe n) k s hk d = unsubscribe-same m n k s hk d
-step-same m (selectiveRead n v) k s hk d = (refl, refl)
-step-same m (selectiveSubscribe n v) k s hk d = (refl, refl)
-step-same m (selectiveUnsubscribe n v) k s hk d = (refl, refl)
-step-same m (deleteEntry n v) k s hk d = (refl, refl)
+step-same p m capabilities k s hk d = (refl, refl)
+step-same p m (read n) k s hk d = (refl, refl)
+step-same p m (set n v) k s hk d = marks-same m _ k (set-marks p m n v s k hk)
+step-same p m (subscribe n) k s hk d = subscribe-same p m n k s hk
+step-same p m (unsubscribe n) k s hk d = unsubscribe-same p m n k s hk d
+step-same p m (selectiveRead n v) k s hk d = (refl, refl)
+step-same p m (selectiveSubscribe n v) k s hk d = (refl, refl)
+step-same p m (selectiveUnsubscribe n v) k s hk d = (refl, refl)
+step-same p m (deleteEntry n v) k s hk d = (refl, refl)
 
-after-untold : (m : List ℕ) (os : List Op) (k : ℕ) → sound m ≡ true → k < entryCount → unsubscribes (rowAt k .name) os ≡ false → Untold m k → Untold (after m os) k
+after-untold : (p : ℕ) (m : List ℕ) (os : List Op) (k : ℕ) → sound m ≡ true → k < entryCount → unsubscribes (rowAt k .name) os ≡ false → Untold m k → Untold (after p m os) k
 unfolding after unsubscribes
-after-untold m [] k s hk d u = u
-after-untold m (o ∷ os) k s hk d u =
+after-untold p m [] k s hk d u = u
+after-untold p m (o ∷ os) k s hk d u =
     let e = neither (releases (rowAt k .name) o) _ d in
-    after-untold (step m o) os k (step-sound m o s) hk (e .1) (still m (step m o) k (step-same m o k s hk (e .0)) u)
+    after-untold p (step p m o) os k (step-sound p m o s) hk (e .1) (still m (step p m o) k (step-same p m o k s hk (e .0)) u)
 
 -- ---- a call
 
-message-untold : (m s room : List ℕ) (k : ℕ) → sound m ≡ true → k < entryCount → isAcknowledgement s ≡ false → unsubscribes (rowAt k .name) (opsOf s) ≡ false
-    → Untold m k → Untold (message m s room .memory) k
+message-untold : (p : ℕ) (m s room : List ℕ) (k : ℕ) → sound m ≡ true → k < entryCount → isAcknowledgement s ≡ false → unsubscribes (rowAt k .name) (opsOf p s) ≡ false
+    → Untold m k → Untold (message p m s room .memory) k
 unfolding message
-message-untold m s room k h hk a d u =
-    call-memory (λ m′. Untold m′ k) (messageChecks m s (length room)) _ m room u
+message-untold p m s room k h hk a d u =
+    call-memory (λ m′. Untold m′ k) (messageChecks p m s (length room)) _ m room u
     (λ e.
-    handled-either (λ m′. Untold m′ k) m s (λ c. after-untold m (opsOf s) k h hk d u)
-    (λ c. absurd (false≢true (rw (c, a) at (message-passed m s (length room) e .known)))))
+    handled-either p (λ m′. Untold m′ k) m s (λ c. after-untold p m (opsOf p s) k h hk d u)
+    (λ c. absurd (false≢true (rw (c, a) at (message-passed p m s (length room) e .known)))))
 
-local-untold : (m : List ℕ) (n : ℕ) (v : List ℕ) (k : ℕ) → sound m ≡ true → k < entryCount → Untold m k → Untold (localValue m n v .memory) k
+local-untold : (p : ℕ) (m : List ℕ) (n : ℕ) (v : List ℕ) (k : ℕ) → sound m ≡ true → k < entryCount → Untold m k → Untold (localValue p m n v .memory) k
 unfolding localValue localChecks
-local-untold m n v k s hk u =
-    call-memory (λ m′. Untold m′ k) (localChecks m n v) _ m [] u
+local-untold p m n v k s hk u =
+    call-memory (λ m′. Untold m′ k) (localChecks p m n v) _ m [] u
     (λ e. at (local-opened n v (first-passed 11 _ _ (first-passed 0 _ _ e .1) .0)) (ℕ-discrete k (place n)) u)
   where
     at : Local n v → Dec (k ≡ place n) → Untold m k → Untold (localMemory m (place n) v) k
@@ -151,51 +155,51 @@ local-untold m n v k s hk u =
     at l (yes y) (inr w) =
         inr (ap (pending (localMemory m (place n) v)) y ∙ local-marks-after m n v s l .pendency ∙ or-left _ _ (ap (pending m) (sym y) ∙ w))
 
-build-untold : (m room : List ℕ) (k : ℕ) → sound m ≡ true → k < entryCount → Untold m k → Untold (build m room .memory) k
-build-untold m room k s hk u = go (ℕ-discrete (build m room .number) 0) u
+build-untold : (p : ℕ) (m room : List ℕ) (k : ℕ) → sound m ≡ true → k < entryCount → Untold m k → Untold (build p m room .memory) k
+build-untold p m room k s hk u = go (ℕ-discrete (build p m room .number) 0) u
   where
-    go : Dec (build m room .number ≡ 0) → Untold m k → Untold (build m room .memory) k
-    go (no ne) w = rw (build-refused m room (omega arith) .sameMemory) w
-    go (yes z) (inr w) = inl (build-leaves m room z .nowInFlight k hk ∙ w)
-    go (yes z) (inl w) = absurd (false≢true (sym (none-while-idle m s (build-idle m room z .1) k hk) ∙ w))
+    go : Dec (build p m room .number ≡ 0) → Untold m k → Untold (build p m room .memory) k
+    go (no ne) w = rw (build-refused p m room (omega arith) .sameMemory) w
+    go (yes z) (inr w) = inl (build-leaves p m room z .nowInFlight k hk ∙ w)
+    go (yes z) (inl w) = absurd (false≢true (sym (none-while-idle m s (build-idle p m room z .1) k hk) ∙ w))
 
 either : (m : List ℕ) (k : ℕ) → Untold m k → (pending m k || inFlight m k) ≡ true
 either m k (inl w) = or-right (pending m k) _ w
 either m k (inr w) = or-left _ _ w
 
-expiry-untold : (m : List ℕ) (k : ℕ) → sound m ≡ true → k < entryCount → Untold m k → Untold (expiry m .memory) k
-expiry-untold m k s hk u = go (expiry-number m)
+expiry-untold : (p : ℕ) (m : List ℕ) (k : ℕ) → sound m ≡ true → k < entryCount → Untold m k → Untold (expiry p m .memory) k
+expiry-untold p m k s hk u = go (expiry-number p m)
   where
-    go : OfExpiry (expiry m) → Untold (expiry m .memory) k
-    go (inl e) = rw (expiry-refused m (omega arith) (omega arith) .sameMemory) u
-    go (inr (inl e)) = rw (expiry-refused m (omega arith) (omega arith) .sameMemory) u
-    go (inr (inr (inl e))) = still m (expiry m .memory) k (marks-same m _ k (again-marks m e k hk)) u
-    go (inr (inr (inr e))) = inr (given-up-leaves m e .pendencies k hk ∙ either m k u)
+    go : OfExpiry (expiry p m) → Untold (expiry p m .memory) k
+    go (inl e) = rw (expiry-refused p m (omega arith) (omega arith) .sameMemory) u
+    go (inr (inl e)) = rw (expiry-refused p m (omega arith) (omega arith) .sameMemory) u
+    go (inr (inr (inl e))) = still m (expiry p m .memory) k (marks-same m _ k (again-marks p m e k hk)) u
+    go (inr (inr (inr e))) = inr (given-up-leaves p m e .pendencies k hk ∙ either m k u)
 
-gives-untold : (m : List ℕ) (c : Call) (k : ℕ) → sound m ≡ true → k < entryCount → letsGo (rowAt k .name) c ≡ false → Untold m k
-    → (sound (gives m c .memory) ≡ true) × Untold (gives m c .memory) k
+gives-untold : (p : ℕ) (m : List ℕ) (c : Call) (k : ℕ) → soundIn p m ≡ true → k < entryCount → letsGo p (rowAt k .name) c ≡ false → Untold m k
+    → (soundIn p (gives p m c .memory) ≡ true) × Untold (gives p m c .memory) k
 unfolding gives letsGo
-gives-untold m refresh k s hk d u = absurd (false≢true (sym d))
-gives-untold m (takeMessage t room) k s hk d u =
+gives-untold p m refresh k s hk d u = absurd (false≢true (sym d))
+gives-untold p m (takeMessage t room) k s hk d u =
     let e = neither (isAcknowledgement t) _ d in
-    (message-sound m t room s, message-untold m t room k s hk (e .0) (e .1) u)
-gives-untold m (takeValue n v) k s hk d u = (localValue-sound m n v s, local-untold m n v k s hk u)
-gives-untold m (buildIn room) k s hk d u = (build-sound m room s, build-untold m room k s hk u)
-gives-untold m takeExpiry k s hk d u = (expiry-sound m s, expiry-untold m k s hk u)
+    (message-in p m t room s, message-untold p m t room k (in-sound p m s) hk (e .0) (e .1) u)
+gives-untold p m (takeValue n v) k s hk d u = (localValue-in p m n v s, local-untold p m n v k (in-sound p m s) hk u)
+gives-untold p m (buildIn room) k s hk d u = (build-in p m room s, build-untold p m room k (in-sound p m s) hk u)
+gives-untold p m takeExpiry k s hk d u = (expiry-in p m s, expiry-untold p m k (in-sound p m s) hk u)
 
 -- ---- calls one after another
 
-record Carried (m : List ℕ) (k : ℕ) (cs : List Call) : Type 0 where
-  always : AlwaysUntold m k cs
-  isSound : sound (afterCalls m cs) ≡ true
-  last : Untold (afterCalls m cs) k
+record Carried (p : ℕ) (m : List ℕ) (k : ℕ) (cs : List Call) : Type 0 where
+  always : AlwaysUntold p m k cs
+  isSound : soundIn p (afterCalls p m cs) ≡ true
+  last : Untold (afterCalls p m cs) k
 
-carried : (m : List ℕ) (k : ℕ) (cs : List Call) → sound m ≡ true → k < entryCount → Untold m k → holdsOn (rowAt k .name) cs ≡ true → Carried m k cs
+carried : (p : ℕ) (m : List ℕ) (k : ℕ) (cs : List Call) → soundIn p m ≡ true → k < entryCount → Untold m k → holdsOn p (rowAt k .name) cs ≡ true → Carried p m k cs
 unfolding afterCalls holdsOn
-carried m k [] s hk u h = record { always = u; isSound = s; last = u }
-carried m k (c ∷ cs) s hk u h =
-    let e = gives-untold m c k s hk (denied (letsGo (rowAt k .name) c) (and-left _ _ h)) u in
-    let r = carried (gives m c .memory) k cs (e .0) hk (e .1) (and-right (not (letsGo (rowAt k .name) c)) _ h) in
+carried p m k [] s hk u h = record { always = u; isSound = s; last = u }
+carried p m k (c ∷ cs) s hk u h =
+    let e = gives-untold p m c k s hk (denied (letsGo p (rowAt k .name) c) (and-left _ _ h)) u in
+    let r = carried p (gives p m c .memory) k cs (e .0) hk (e .1) (and-right (not (letsGo p (rowAt k .name) c)) _ h) in
     record { always = (u, r .always); isSound = r .isSound; last = r .last }
 
 idle-pending : (m : List ℕ) (k : ℕ) → sound m ≡ true → k < entryCount → waiting m ≡ false → Untold m k → pending m k ≡ true
@@ -203,65 +207,65 @@ idle-pending m k s hk w (inl u) = absurd (false≢true (sym (none-while-idle m s
 idle-pending m k s hk w (inr u) = u
 
 -- a build of what is pending is done while idle, and tells it
-pub pending-told-next : (m room : List ℕ) (k : ℕ) → sound m ≡ true → k < entryCount → waiting m ≡ false → pending m k ≡ true → 1600 ≤ length room
-    → (build m room .number ≡ 0) × (tells (build m room .written) (rowAt k .name) ≡ true)
-pending-told-next m room k s hk w e h =
-    let b = build-does m room s h w (reports-some m entryCount k hk e) in
-    let z : build m room .number ≡ 0 = rw b in
-    (z, build-tells m room k hk z ∙ e)
+pub pending-told-next : (p : ℕ) (m room : List ℕ) (k : ℕ) → soundIn p m ≡ true → k < entryCount → waiting m ≡ false → pending m k ≡ true → 1600 ≤ length room
+    → (build p m room .number ≡ 0) × (tells (build p m room .written) (rowAt k .name) ≡ true)
+pending-told-next p m room k s hk w e h =
+    let b = build-does p m room s h w (reports-some p m entryCount k hk e) in
+    let z : build p m room .number ≡ 0 = rw b in
+    (z, build-tells p m room k hk z ∙ e)
 
 -- of whatever is in flight or pending in sound memory
-pub nothing-lost : (m : List ℕ) (k : ℕ) (cs : List Call) → sound m ≡ true → k < entryCount → Untold m k → holdsOn (rowAt k .name) cs ≡ true → NotLost m k cs
-nothing-lost m k cs s hk u h =
-    let l = afterCalls m cs in
-    let r = carried m k cs s hk u h in
-    let idle : waiting l ≡ false → pending l k ≡ true = λ w. idle-pending l k (r .isSound) hk w (r .last) in
+pub nothing-lost : (p : ℕ) (m : List ℕ) (k : ℕ) (cs : List Call) → soundIn p m ≡ true → k < entryCount → Untold m k → holdsOn p (rowAt k .name) cs ≡ true → NotLost p m k cs
+nothing-lost p m k cs s hk u h =
+    let l = afterCalls p m cs in
+    let r = carried p m k cs s hk u h in
+    let idle : waiting l ≡ false → pending l k ≡ true = λ w. idle-pending l k (in-sound p l (r .isSound)) hk w (r .last) in
     record {
       always = r .always;
-      onceGivenUp = λ e. given-up-leaves l e .pendencies k hk ∙ either l k (r .last);
+      onceGivenUp = λ e. given-up-leaves p l e .pendencies k hk ∙ either l k (r .last);
       whileIdle = idle;
-      toldAgain = λ w room long. pending-told-next l room k (r .isSound) hk w (idle w) long;
+      toldAgain = λ w room long. pending-told-next p l room k (r .isSound) hk w (idle w) long;
     }
 
 -- so of each name that a notification tells, from its build on
-pub told-not-lost : (m room : List ℕ) (k : ℕ) (cs : List Call) → sound m ≡ true → k < entryCount → build m room .number ≡ 0
-    → tells (build m room .written) (rowAt k .name) ≡ true → holdsOn (rowAt k .name) cs ≡ true → NotLost (build m room .memory) k cs
-told-not-lost m room k cs s hk e t h =
-    nothing-lost (build m room .memory) k cs (build-sound m room s) hk
-    (inl (build-leaves m room e .nowInFlight k hk ∙ sym (build-tells m room k hk e) ∙ t))
+pub told-not-lost : (p : ℕ) (m room : List ℕ) (k : ℕ) (cs : List Call) → soundIn p m ≡ true → k < entryCount → build p m room .number ≡ 0
+    → tells (build p m room .written) (rowAt k .name) ≡ true → holdsOn p (rowAt k .name) cs ≡ true → NotLost p (build p m room .memory) k cs
+told-not-lost p m room k cs s hk e t h =
+    nothing-lost p (build p m room .memory) k cs (build-in p m room s) hk
+    (inl (build-leaves p m room e .nowInFlight k hk ∙ sym (build-tells p m room k hk e) ∙ t))
     h
 
-holds-append : (n : ℕ) (cs : List Call) → holdsOn n cs ≡ true → holdsOn n (cs ++ (takeExpiry ∷ [])) ≡ true
+holds-append : (p n : ℕ) (cs : List Call) → holdsOn p n cs ≡ true → holdsOn p n (cs ++ (takeExpiry ∷ [])) ≡ true
 unfolding holdsOn letsGo
-holds-append n [] h = refl
-holds-append n (c ∷ cs) h =
-    and-both {a = not (letsGo n c)} (and-left (not (letsGo n c)) (holdsOn n cs) h) (holds-append n cs (and-right (not (letsGo n c)) _ h))
+holds-append p n [] h = refl
+holds-append p n (c ∷ cs) h =
+    and-both {a = not (letsGo p n c)} (and-left (not (letsGo p n c)) (holdsOn p n cs) h) (holds-append p n cs (and-right (not (letsGo p n c)) _ h))
 
 -- ---- a lost modem: sent five times and given up, it is told again by the next build
 
-holds-unacknowledged : (n : ℕ) (cs : List Call) → holdsOn n cs ≡ true → unacknowledged cs ≡ true
+holds-unacknowledged : (p n : ℕ) (cs : List Call) → holdsOn p n cs ≡ true → unacknowledged cs ≡ true
 unfolding holdsOn unacknowledged letsGo ends
-holds-unacknowledged n [] h = refl
-holds-unacknowledged n (c ∷ cs) h = and-both (go c (denied (letsGo n c) (and-left _ _ h))) (holds-unacknowledged n cs (and-right (not (letsGo n c)) _ h))
+holds-unacknowledged p n [] h = refl
+holds-unacknowledged p n (c ∷ cs) h = and-both (go c (denied (letsGo p n c) (and-left _ _ h))) (holds-unacknowledged p n cs (and-right (not (letsGo p n c)) _ h))
   where
-    go : (d : Call) → letsGo n d ≡ false → not (ends d) ≡ true
+    go : (d : Call) → letsGo p n d ≡ false → not (ends d) ≡ true
     go refresh e = absurd (false≢true (sym e))
     go (takeMessage s room) e = ap not (neither (isAcknowledgement s) _ e .0)
     go (takeValue k v) e = refl
     go (buildIn room) e = refl
     go takeExpiry e = refl
 
-pub lost-modem : (m room : List ℕ) (k : ℕ) (cs : List Call) → sound m ≡ true → k < entryCount → build m room .number ≡ 0
-    → tells (build m room .written) (rowAt k .name) ≡ true → holdsOn (rowAt k .name) cs ≡ true → expiriesIn cs ≡ 4
-    → let l = afterCalls m ((buildIn room ∷ cs) ++ (takeExpiry ∷ [])) in
-    (pending l k ≡ true) × ((again : List ℕ) → 1600 ≤ length again → (build l again .number ≡ 0) × (tells (build l again .written) (rowAt k .name) ≡ true))
+pub lost-modem : (p : ℕ) (m room : List ℕ) (k : ℕ) (cs : List Call) → soundIn p m ≡ true → k < entryCount → build p m room .number ≡ 0
+    → tells (build p m room .written) (rowAt k .name) ≡ true → holdsOn p (rowAt k .name) cs ≡ true → expiriesIn cs ≡ 4
+    → let l = afterCalls p m ((buildIn room ∷ cs) ++ (takeExpiry ∷ [])) in
+    (pending l k ≡ true) × ((again : List ℕ) → 1600 ≤ length again → (build p l again .number ≡ 0) × (tells (build p l again .written) (rowAt k .name) ≡ true))
 unfolding afterCalls gives
-lost-modem m room k cs s hk e t h n =
-    let five = sent-five-times m room cs e (holds-unacknowledged (rowAt k .name) cs h) n in
-    let r = told-not-lost m room k (cs ++ (takeExpiry ∷ [])) s hk e t (holds-append (rowAt k .name) cs h) in
+lost-modem p m room k cs s hk e t h n =
+    let five = sent-five-times p m room cs e (holds-unacknowledged p (rowAt k .name) cs h) n in
+    let r = told-not-lost p m room k (cs ++ (takeExpiry ∷ [])) s hk e t (holds-append p (rowAt k .name) cs h) in
     (r .whileIdle (five .idle .waits), λ again long. r .toldAgain (five .idle .waits) again long)
 
 -- such calls there are: those of `sent-five-times`, in which Tick granularity is told, changes, and is not let go
-pub such-calls-hold : (tells (build (afterCalls fresh before) (zeros 1600) .written) (rowAt 6 .name) ≡ true) × (holdsOn 0x0008 between ≡ true)
+pub such-calls-hold : (tells (build release18 (afterCalls release18 fresh before) (zeros 1600) .written) (rowAt 6 .name) ≡ true) × (holdsOn release18 0x0008 between ≡ true)
 unfolding all gives afterCalls before between holdsOn letsGo releases unsubscribes
-such-calls-hold = (build-tells (afterCalls fresh before) (zeros 1600) 6 (omega arith) (such-calls .0) ∙ refl, refl)
+such-calls-hold = (build-tells release18 (afterCalls release18 fresh before) (zeros 1600) 6 (omega arith) (such-calls .0) ∙ refl, refl)

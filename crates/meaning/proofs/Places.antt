@@ -10,8 +10,9 @@ use lib.ListN.{length, length-append, length-replicate}
 use lib.Dec.{eqb, leb, ltb}
 use borrow.Author.Tests.{leb-true, ltb-true, eqb-true}
 use Rattle.meaning.specs.Octets.{octet, part, splice, be16, below}
-use Rattle.meaning.specs.Table.{rowAt, rows, rooms, roomAt, entryCount, memoryLength, bodiesAt, timerAt, place, placeIn, listed, gateEnabled, adminBaseTime, adminControlListLength, adminControlList, adminCycleTime, supportedListMax, commit}
+use Rattle.meaning.specs.Table.{rowAt, rows, rooms, roomAt, entryCount, memoryLength, bodiesAt, timerAt, place, placeIn, gateEnabled, adminBaseTime, adminControlListLength, adminControlList, adminCycleTime, supportedListMax, commit}
 use Rattle.meaning.specs.Memory.{cellAt, flagsAt, cell, room, timer, cellOf, roomOf, putCell, putRoom, put, setTimer}
+use Rattle.meaning.specs.Profile.{lists, listed}
 use Rattle.meaning.proofs.Lists.{part-octet, octet-part, splice-length, splice-same, splice-before, splice-after}
 use Rattle.meaning.proofs.Tests.{and-left, and-right, or-cases, below-at}
 
@@ -62,9 +63,9 @@ module _ (k : ℕ) (h : k < entryCount) where
   pub most-small : rowAt k .most < 65536
   most-small = ltb-true _ _ (and-right (ltb (rowAt k .name) 65536) _ (below-at entryCount small all-small k h))
 
-pub listed-place : (n : ℕ) → listed n ≡ true → place n < entryCount
-unfolding listed
-listed-place n e = ltb-true _ _ e
+pub listed-place : (p n : ℕ) → listed p n ≡ true → place n < entryCount
+unfolding listed lists
+listed-place p n e = ltb-true _ _ (and-left _ _ e)
 
 abbrev Apart : ℕ → ℕ → Type 0
 Apart j k = (roomAt j + rowAt j .most ≤ roomAt k) ⊎ (roomAt k + rowAt k .most ≤ roomAt j)

@@ -13,6 +13,7 @@ use borrow.Author.Tests.{leb-true, eqb-true, eq-eqb, ne-eqb}
 use Rattle.meaning.specs.Octets.{implies, zeros}
 use Rattle.meaning.specs.Checks.{Checks, passed, check, firstFailed}
 use Rattle.meaning.specs.Memory.{fresh}
+use Rattle.meaning.specs.Profile.{release18}
 use Rattle.meaning.specs.Operation.{Op, parse, isSome, breakOf}
 use Rattle.meaning.specs.Calls.{Outcome, done, numberOnly, call, isCommand, lengthField, operations, handled, messageChecks, located, message, localChecks, localValue, buildChecks, build, expired, expiryChecks, expiry, makeFresh}
 use Rattle.meaning.proofs.All.{all}
@@ -48,48 +49,48 @@ not-parsed false p e = absurd (true≢false e)
 call-number : (cs : Checks) (w m′ m room : List ℕ) → call cs (done w m′ room) m room .number ≡ firstFailed cs
 call-number cs w m′ m room = call-either (λ o. o .number ≡ firstFailed cs) cs (done w m′ room) m room (λ e. sym e) (λ n e. sym e)
 
-module _ (m s room : List ℕ) where
-  broken-6 : message m s room .number ≡ 6 → (length s ≤ 2048) × (parse (operations s) ≡ none)
+module _ (p : ℕ) (m s room : List ℕ) where
+  broken-6 : message p m s room .number ≡ 6 → (length s ≤ 2048) × (parse p (operations s) ≡ none)
   unfolding message messageChecks
   broken-6 e =
-      let x = sixth _ _ _ _ _ _ _ _ (sym (call-number (messageChecks m s (length room)) (handled m s .reply) (handled m s .memory) m room) ∙ e) in
-      (leb-true (length s) 2048 (x .0), not-parsed (isCommand s) (parse (operations s)) (x .1))
+      let x = sixth _ _ _ _ _ _ _ _ (sym (call-number (messageChecks p m s (length room)) (handled p m s .reply) (handled p m s .memory) m room) ∙ e) in
+      (leb-true (length s) 2048 (x .0), not-parsed (isCommand s) (parse p (operations s)) (x .1))
 
-  short : length s ≤ 2048 → breakOf (operations s) ≤ 2051
+  short : length s ≤ 2048 → breakOf p (operations s) ≤ 2051
   unfolding breakOf operations
   short h = omega (arith, part-most s 3 (lengthField s) .1)
 
-  position-6 : message m s room .number ≡ 6 → message m s room .position ≡ breakOf (operations s)
+  position-6 : message p m s room .number ≡ 6 → message p m s room .position ≡ breakOf p (operations s)
   unfolding message
   position-6 e = rw e
 
   -- the operations break at the position that is told
-  pub message-breaks : Octets s → message m s room .number ≡ 6 → Breaks (operations s) (message m s room .position)
+  pub message-breaks : Octets s → message p m s room .number ≡ 6 → Breaks p (operations s) (message p m s room .position)
   unfolding operations
-  message-breaks o e = rw (position-6 e) (breaks-there (operations s) (octets-part s 3 (lengthField s) o) (broken-6 e .1))
+  message-breaks o e = rw (position-6 e) (breaks-there p (operations s) (octets-part s 3 (lengthField s) o) (broken-6 e .1))
 
   -- which lies among the L octets
-  pub message-inside : Octets s → message m s room .number ≡ 6 → (3 ≤ message m s room .position) × (message m s room .position ≤ 2 + lengthField s)
+  pub message-inside : Octets s → message p m s room .number ≡ 6 → (3 ≤ message p m s room .position) × (message p m s room .position ≤ 2 + lengthField s)
   unfolding operations
   message-inside o e =
-      let b = break-inside (operations s) _ (message-breaks o e) in
+      let b = break-inside p (operations s) _ (message-breaks o e) in
       (b .0, omega (arith, b .1, part-most s 3 (lengthField s) .0))
 
   -- a command whose operations break somewhere is refused with 6, and that position
-  pub breaks-message : (p : ℕ) → Measured m s → Breaks (operations s) p → message m s room ≡ located p (numberOnly 6 m room)
-  breaks-message p l b = rw (breaks-is (operations s) p b) (message-6 m s room l (breaks-none (operations s) p b))
+  pub breaks-message : (q : ℕ) → Measured p m s → Breaks p (operations s) q → message p m s room ≡ located q (numberOnly 6 m room)
+  breaks-message q l b = rw (breaks-is p (operations s) q b) (message-6 p m s room l (breaks-none p (operations s) q b))
 
   -- ---- every other number
 
-  pub message-nowhere : message m s room .number ≢ 6 → message m s room .position ≡ 0
+  pub message-nowhere : message p m s room .number ≢ 6 → message p m s room .position ≡ 0
   unfolding message
   message-nowhere n = rw (ne-eqb _ 6 n)
 
   -- so no position has more than four digits
-  pub position-most : message m s room .position ≤ 2051
-  position-most = at (eqb (message m s room .number) 6) refl
+  pub position-most : message p m s room .position ≤ 2051
+  position-most = at (eqb (message p m s room .number) 6) refl
     where
-      at : (b : Bool) → eqb (message m s room .number) 6 ≡ b → message m s room .position ≤ 2051
+      at : (b : Bool) → eqb (message p m s room .number) 6 ≡ b → message p m s room .position ≤ 2051
       at true e = let six = eqb-true _ 6 e in rw (position-6 six) (short (broken-6 six .0))
       at false e = omega (arith, message-nowhere (λ six. true≢false (sym (eq-eqb _ 6 six) ∙ e)))
 
@@ -98,17 +99,17 @@ module _ (m s room : List ℕ) where
 nowhere : (cs : Checks) (o : Outcome) (m room : List ℕ) → o .position ≡ 0 → call cs o m room .position ≡ 0
 nowhere cs o m room e = call-either (λ r. r .position ≡ 0) cs o m room (λ _. e) (λ n f. refl)
 
-pub localValue-nowhere : (m : List ℕ) (n : ℕ) (v : List ℕ) → localValue m n v .position ≡ 0
+pub localValue-nowhere : (p : ℕ) (m : List ℕ) (n : ℕ) (v : List ℕ) → localValue p m n v .position ≡ 0
 unfolding localValue
-localValue-nowhere m n v = nowhere (localChecks m n v) _ m [] refl
+localValue-nowhere p m n v = nowhere (localChecks p m n v) _ m [] refl
 
-pub build-nowhere : (m room : List ℕ) → build m room .position ≡ 0
+pub build-nowhere : (p : ℕ) (m room : List ℕ) → build p m room .position ≡ 0
 unfolding build
-build-nowhere m room = nowhere (buildChecks m (length room)) _ m room refl
+build-nowhere p m room = nowhere (buildChecks p m (length room)) _ m room refl
 
-pub expiry-nowhere : (m : List ℕ) → expiry m .position ≡ 0
+pub expiry-nowhere : (p : ℕ) (m : List ℕ) → expiry p m .position ≡ 0
 unfolding expiry
-expiry-nowhere m = nowhere (expiryChecks m) (expired m) m [] (expired-either (λ o. o .position ≡ 0) m (λ _. refl) refl)
+expiry-nowhere p m = nowhere (expiryChecks p m) (expired m) m [] (expired-either (λ o. o .position ≡ 0) m (λ _. refl) refl)
 
 pub makeFresh-nowhere : (m : List ℕ) → makeFresh m .position ≡ 0
 unfolding makeFresh
@@ -122,10 +123,10 @@ pub record SameBut (o p : Outcome) : Type 0 where
   pub memory : o .memory ≡ p .memory
   pub room : o .room ≡ p .room
 
-pub message-but-position : (m s room : List ℕ)
-    → SameBut (message m s room) (call (messageChecks m s (length room)) (done (handled m s .reply) (handled m s .memory) room) m room)
+pub message-but-position : (p : ℕ) (m s room : List ℕ)
+    → SameBut (message p m s room) (call (messageChecks p m s (length room)) (done (handled p m s .reply) (handled p m s .memory) room) m room)
 unfolding message
-message-but-position m s room = record { number = refl; written = refl; memory = refl; room = refl }
+message-but-position p m s room = record { number = refl; written = refl; memory = refl; room = refl }
 
 -- ---- messages of literal octets, what each returns, and where it breaks
 
@@ -142,9 +143,9 @@ pub record Example : Type 0 where
 abbrev pub example : List ℕ → List ℕ → List ℕ → ℕ → ℕ → Example
 example m s room n p = record { memory = m; sent = s; room = room; wanted = record { number = n; position = p } }
 
-abbrev pub told : Example → Told
-told e =
-    let o = message (e .memory) (e .sent) (e .room) in
+abbrev pub told : (p : ℕ) → Example → Told
+told p e =
+    let o = message p (e .memory) (e .sent) (e .room) in
     record { number = o .number; position = o .position }
 
 -- a command of these operations to fresh memory, with a room for every reply
@@ -187,6 +188,6 @@ examples =
     ∷ example fresh (4 ∷ 0 ∷ 1 ∷ 0 ∷ []) (zeros 4096) 8 0
     ∷ []
 
-pub positions : map (λ (e : Example). told e) examples ≡ map (λ (e : Example). e .wanted) examples
+pub positions : map (λ (e : Example). told release18 e) examples ≡ map (λ (e : Example). e .wanted) examples
 unfolding all examples breaking withLength twoOctets reading setting subscribing unsubscribing likeSet
 positions = refl

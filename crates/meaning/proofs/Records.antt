@@ -30,19 +30,19 @@ gathered-append (x ∷ a) b = rw (gathered-append a b) (sym (joined-assoc (recor
 
 -- ---- operations one after another
 
-pub after-append : (m : List ℕ) (a b : List Op) → after m (a ++ b) ≡ after (after m a) b
+pub after-append : (p : ℕ) (m : List ℕ) (a b : List Op) → after p m (a ++ b) ≡ after p (after p m a) b
 unfolding after
-after-append m [] b = refl
-after-append m (o ∷ a) b = after-append (step m o) a b
+after-append p m [] b = refl
+after-append p m (o ∷ a) b = after-append p (step p m o) a b
 
-pub answers-append : (m : List ℕ) (a b : List Op) → answers m (a ++ b) ≡ answers m a ++ answers (after m a) b
+pub answers-append : (p : ℕ) (m : List ℕ) (a b : List Op) → answers p m (a ++ b) ≡ answers p m a ++ answers p (after p m a) b
 unfolding after answers
-answers-append m [] b = refl
-answers-append m (o ∷ a) b = ap {B = List Answer} (λ l. answer m o ∷ l) (answers-append (step m o) a b)
+answers-append p m [] b = refl
+answers-append p m (o ∷ a) b = ap {B = List Answer} (λ l. answer p m o ∷ l) (answers-append p (step p m o) a b)
 
-pub records-append : (m : List ℕ) (a b : List Op) → records m (a ++ b) ≡ joined (records m a) (records (after m a) b)
+pub records-append : (p : ℕ) (m : List ℕ) (a b : List Op) → records p m (a ++ b) ≡ joined (records p m a) (records p (after p m a) b)
 unfolding records
-records-append m a b = rw (answers-append m a b) (gathered-append (answers m a) (answers (after m a) b))
+records-append p m a b = rw (answers-append p m a b) (gathered-append (answers p m a) (answers p (after p m a) b))
 
 -- ---- lengths in numbers
 
@@ -67,13 +67,13 @@ set-length r =
       length-append (flat failedOctets (r .updateErrors)) (longOctets (r .longUpdates)),
     )
 
-pub complete-length : (r : Records) → length (complete r)
-    ≡ 1 + length (element 0x70 (r .capabilities) allNames) + length (element 0x71 (anyRead r) (readContents r)) + length (element 0x72 (anySet r) (setContents r))
+pub complete-length : (p : ℕ) (r : Records) → length (complete p r)
+    ≡ 1 + length (element 0x70 (r .capabilities) (allNames p)) + length (element 0x71 (anyRead r) (readContents r)) + length (element 0x72 (anySet r) (setContents r))
 unfolding complete
-complete-length r =
+complete-length p r =
     omega (
       arith,
-      length-append (element 0x70 (r .capabilities) allNames)
+      length-append (element 0x70 (r .capabilities) (allNames p))
           (element 0x71 (anyRead r) (readContents r) ++ element 0x72 (anySet r) (setContents r)),
       length-append (element 0x71 (anyRead r) (readContents r)) (element 0x72 (anySet r) (setContents r)),
     )
@@ -97,24 +97,24 @@ long-within p (x ∷ a) q =
     (omega (arith, flat-within heldOctets p (x ∷ a) q))
 
 -- what number 7 tests, in numbers
-pub record Fits (room : ℕ) (r : Records) : Type 0 where
-  pub inRoom : length (complete r) ≤ room
-  pub inLimit : length (complete r) ≤ 4096
+pub record Fits (p room : ℕ) (r : Records) : Type 0 where
+  pub inRoom : length (complete p r) ≤ room
+  pub inLimit : length (complete p r) ≤ 4096
   pub values : length (r .values) ≤ 255
   pub readErrors : length (r .readErrors) ≤ 255
   pub updates : length (r .updates) ≤ 255
   pub updateErrors : length (r .updateErrors) ≤ 255
 
 -- number 7 looks at the reply that is made of the records which answer the operations
-fits-reply : (room : ℕ) (m : List ℕ) (os : List Op)
-    → fits room (carriedOut m os) ≡ every (leb (length (complete (records m os))) room ∷ leb (length (complete (records m os))) 4096 ∷ countsFit (records m os) ∷ [])
+fits-reply : (p room : ℕ) (m : List ℕ) (os : List Op)
+    → fits room (carriedOut p m os) ≡ every (leb (length (complete p (records p m os))) room ∷ leb (length (complete p (records p m os))) 4096 ∷ countsFit (records p m os) ∷ [])
 unfolding fits carriedOut
-fits-reply room m os = refl
+fits-reply p room m os = refl
 
-pub fits-opened : (room : ℕ) (m : List ℕ) (os : List Op) → fits room (carriedOut m os) ≡ true → Fits room (records m os)
+pub fits-opened : (p room : ℕ) (m : List ℕ) (os : List Op) → fits room (carriedOut p m os) ≡ true → Fits p room (records p m os)
 unfolding countsFit
-fits-opened room m os f =
-    let e = sym (fits-reply room m os) ∙ f in
+fits-opened p room m os f =
+    let e = sym (fits-reply p room m os) ∙ f in
     let c = every-at _ 2 e in
     record {
       inRoom = leb-true _ _ (every-at _ 0 e);
@@ -125,10 +125,10 @@ fits-opened room m os f =
       updateErrors = leb-true _ _ (every-at _ 3 c);
     }
 
-pub fits-closed : (room : ℕ) (m : List ℕ) (os : List Op) → Fits room (records m os) → fits room (carriedOut m os) ≡ true
+pub fits-closed : (p room : ℕ) (m : List ℕ) (os : List Op) → Fits p room (records p m os) → fits room (carriedOut p m os) ≡ true
 unfolding countsFit every
-fits-closed room m os f =
-    fits-reply room m os
+fits-closed p room m os f =
+    fits-reply p room m os
     ∙ simp (
       le-leb _ _ (f .inRoom),
       le-leb _ _ (f .inLimit),
@@ -138,9 +138,9 @@ fits-closed room m os f =
       le-leb _ _ (f .updateErrors),
     )
 
-module _ (p r q : Records) where
+module _ (p : ℕ) (h r q : Records) where
   abbrev whole : Records
-  whole = joined p (joined r q)
+  whole = joined h (joined r q)
 
   read-within : length (readContents r) ≤ length (readContents whole)
   read-within =
@@ -148,8 +148,8 @@ module _ (p r q : Records) where
         arith,
         read-length r,
         read-length whole,
-        flat-within heldOctets (p .values) (r .values) (q .values),
-        flat-within failedOctets (p .readErrors) (r .readErrors) (q .readErrors),
+        flat-within heldOctets (h .values) (r .values) (q .values),
+        flat-within failedOctets (h .readErrors) (r .readErrors) (q .readErrors),
       )
 
   set-within : length (setContents r) ≤ length (setContents whole)
@@ -158,56 +158,56 @@ module _ (p r q : Records) where
         arith,
         set-length r,
         set-length whole,
-        flat-within shortOctets (p .updates) (r .updates) (q .updates),
-        flat-within failedOctets (p .updateErrors) (r .updateErrors) (q .updateErrors),
-        long-within (p .longUpdates) (r .longUpdates) (q .longUpdates),
+        flat-within shortOctets (h .updates) (r .updates) (q .updates),
+        flat-within failedOctets (h .updateErrors) (r .updateErrors) (q .updateErrors),
+        long-within (h .longUpdates) (r .longUpdates) (q .longUpdates),
       )
 
   any-read-within : anyRead r ≡ true → anyRead whole ≡ true
   any-read-within =
       or-grows (nonempty (r .values)) (nonempty (r .readErrors)) (nonempty (whole .values)) (nonempty (whole .readErrors))
-      (nonempty-within (p .values) (r .values) (q .values))
-      (nonempty-within (p .readErrors) (r .readErrors) (q .readErrors))
+      (nonempty-within (h .values) (r .values) (q .values))
+      (nonempty-within (h .readErrors) (r .readErrors) (q .readErrors))
 
   any-set-within : anySet r ≡ true → anySet whole ≡ true
   any-set-within =
       or-grows (nonempty (r .updates)) (nonempty (r .updateErrors) || nonempty (r .longUpdates)) (nonempty (whole .updates)) (nonempty (whole .updateErrors) || nonempty (whole .longUpdates))
-      (nonempty-within (p .updates) (r .updates) (q .updates))
+      (nonempty-within (h .updates) (r .updates) (q .updates))
       (or-grows (nonempty (r .updateErrors)) (nonempty (r .longUpdates)) (nonempty (whole .updateErrors)) (nonempty (whole .longUpdates))
-      (nonempty-within (p .updateErrors) (r .updateErrors) (q .updateErrors))
-      (nonempty-within (p .longUpdates) (r .longUpdates) (q .longUpdates)))
+      (nonempty-within (h .updateErrors) (r .updateErrors) (q .updateErrors))
+      (nonempty-within (h .longUpdates) (r .longUpdates) (q .longUpdates)))
 
-  complete-within : length (complete r) ≤ length (complete whole)
+  complete-within : length (complete p r) ≤ length (complete p whole)
   complete-within =
       omega (
         arith,
-        complete-length r,
-        complete-length whole,
-        element-grows 0x70 (r .capabilities) (whole .capabilities) allNames allNames (λ e. rw e (or-true (p .capabilities))) (omega arith),
+        complete-length p r,
+        complete-length p whole,
+        element-grows 0x70 (r .capabilities) (whole .capabilities) (allNames p) (allNames p) (λ e. rw e (or-true (h .capabilities))) (omega arith),
         element-grows 0x71 (anyRead r) (anyRead whole) (readContents r) (readContents whole) any-read-within read-within,
         element-grows 0x72 (anySet r) (anySet whole) (setContents r) (setContents whole) any-set-within set-within,
       )
 
-  pub fits-within : (room : ℕ) → Fits room whole → Fits room r
+  pub fits-within : (room : ℕ) → Fits p room whole → Fits p room r
   fits-within room f =
       record {
         inRoom = omega (arith, complete-within, f .inRoom);
         inLimit = omega (arith, complete-within, f .inLimit);
-        values = omega (arith, length-within (p .values) (r .values) (q .values), f .values);
-        readErrors = omega (arith, length-within (p .readErrors) (r .readErrors) (q .readErrors), f .readErrors);
-        updates = omega (arith, length-within (p .updates) (r .updates) (q .updates), f .updates);
-        updateErrors = omega (arith, length-within (p .updateErrors) (r .updateErrors) (q .updateErrors), f .updateErrors);
+        values = omega (arith, length-within (h .values) (r .values) (q .values), f .values);
+        readErrors = omega (arith, length-within (h .readErrors) (r .readErrors) (q .readErrors), f .readErrors);
+        updates = omega (arith, length-within (h .updates) (r .updates) (q .updates), f .updates);
+        updateErrors = omega (arith, length-within (h .updateErrors) (r .updateErrors) (q .updateErrors), f .updateErrors);
       }
 
-pub fits-left : (room : ℕ) (r s : Records) → Fits room (joined r s) → Fits room r
-fits-left room r s f = fits-within noRecords r s room f
+pub fits-left : (p room : ℕ) (r s : Records) → Fits p room (joined r s) → Fits p room r
+fits-left p room r s f = fits-within p noRecords r s room f
 
-pub fits-right : (room : ℕ) (r s : Records) → Fits room (joined r s) → Fits room s
-fits-right room r s f = fits-within r s noRecords room (subst (λ (x : Records). Fits room (joined r x)) (sym (joined-none s)) f)
+pub fits-right : (p room : ℕ) (r s : Records) → Fits p room (joined r s) → Fits p room s
+fits-right p room r s f = fits-within p r s noRecords room (subst (λ (x : Records). Fits p room (joined r x)) (sym (joined-none s)) f)
 
 -- another room serves too that the reply fits in
-pub fits-in : (n k : ℕ) (r : Records) → length (complete r) ≤ k → Fits n r → Fits k r
-fits-in n k r h f =
+pub fits-in : (p n k : ℕ) (r : Records) → length (complete p r) ≤ k → Fits p n r → Fits p k r
+fits-in p n k r h f =
     record {
       inRoom = h;
       inLimit = f .inLimit;

@@ -214,3 +214,6 @@ unfolding body room part
 body-spelt m e k hk =
     take-take (size (cell m k)) (rowAt k .most) (drop (roomAt k) m) (entry-of m (opened m e) k hk .inRoom)
     ∙ ap (λ (n : ℕ). part m (roomAt k) n) (size-spelt m k)
+
+pub body-measures : (m : List ℕ) → sound m ≡ true → (k : ℕ) → k < entryCount → length (body m k) ≡ lengthAt m k
+body-measures m e k hk = body-long m k (opened m e .long) hk (entry-of m (opened m e) k hk .inRoom)

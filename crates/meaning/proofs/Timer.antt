@@ -10,9 +10,11 @@ use Rattle.meaning.specs.Octets.{every, implies, nonempty}
 use Rattle.meaning.specs.Checks.{firstFailed, whenPassed}
 use Rattle.meaning.specs.Table.{entryCount}
 use Rattle.meaning.specs.Memory.{timer, waiting, expiries, setTimer, present, body, subscribed, pending, inFlight, sound}
+use Rattle.meaning.specs.Profile.{soundIn}
 use Rattle.meaning.specs.Calls.{done, numberOnly, call, isCommand, isAcknowledgement, handled, acknowledged, fits, messageChecks, message, reports, notification, Moment, whenSent, whenAcknowledged, whenGivenUp, pendingAfter, inFlightAfter, turned, buildChecks, build, expiryChecks, expiry}
 use Rattle.meaning.proofs.Tests.{first-passed}
 use Rattle.meaning.proofs.Places.{timer-setTimer, cell-setTimer}
+use Rattle.meaning.proofs.Profiles.{in-sound}
 use Rattle.meaning.proofs.Checked.{call-done, call-passed}
 use Rattle.meaning.proofs.Sound.{Sound, opened, present-setTimer, body-setTimer}
 use Rattle.meaning.proofs.Kept.{idled, waits-sound, waits-now, expired-again, expired-last}
@@ -36,36 +38,36 @@ idled-timer t m s w =
 
 -- ---- an acknowledgement while waiting (RULES 14.11)
 
-pub acknowledged-idle : (m room : List ℕ) → sound m ≡ true → waiting m ≡ true → 1 ≤ length room
-    → message m (4 ∷ []) room ≡ done (5 ∷ []) (idled whenAcknowledged m) room
+pub acknowledged-idle : (p : ℕ) (m room : List ℕ) → soundIn p m ≡ true → waiting m ≡ true → 1 ≤ length room
+    → message p m (4 ∷ []) room ≡ done (5 ∷ []) (idled whenAcknowledged m) room
 unfolding message call whenPassed messageChecks firstFailed handled acknowledged isCommand isAcknowledgement implies fits every
-acknowledged-idle m room s w h = simp (s, w, le-leb 1 (length room) h)
+acknowledged-idle p m room s w h = simp (s, w, le-leb 1 (length room) h)
 
-pub acknowledged-timer : (m room : List ℕ) → sound m ≡ true → waiting m ≡ true → 1 ≤ length room → Timer (message m (4 ∷ []) room .memory) false 0
-acknowledged-timer m room s w h = rw (acknowledged-idle m room s w h) (idled-timer whenAcknowledged m s w)
+pub acknowledged-timer : (p : ℕ) (m room : List ℕ) → soundIn p m ≡ true → waiting m ≡ true → 1 ≤ length room → Timer (message p m (4 ∷ []) room .memory) false 0
+acknowledged-timer p m room s w h = rw (acknowledged-idle p m room s w h) (idled-timer whenAcknowledged m (in-sound p m s) w)
 
 -- ---- expiries (RULES 14.8, 14.9)
 
-pub expiry-again : (m : List ℕ) → sound m ≡ true → waiting m ≡ true → expiries m < 4 → expiry m ≡ numberOnly 20 (setTimer m 1 (expiries m + 1)) []
+pub expiry-again : (p : ℕ) (m : List ℕ) → soundIn p m ≡ true → waiting m ≡ true → expiries m < 4 → expiry p m ≡ numberOnly 20 (setTimer m 1 (expiries m + 1)) []
 unfolding expiry call whenPassed expiryChecks firstFailed
-expiry-again m s w h = simp (s, w) (expired-again m h)
+expiry-again p m s w h = simp (s, w) (expired-again m h)
 
-pub expiry-given-up : (m : List ℕ) → sound m ≡ true → waiting m ≡ true → 4 ≤ expiries m → expiry m ≡ numberOnly 21 (idled whenGivenUp m) []
+pub expiry-given-up : (p : ℕ) (m : List ℕ) → soundIn p m ≡ true → waiting m ≡ true → 4 ≤ expiries m → expiry p m ≡ numberOnly 21 (idled whenGivenUp m) []
 unfolding expiry call whenPassed expiryChecks firstFailed
-expiry-given-up m s w h = simp (s, w) (expired-last m h)
+expiry-given-up p m s w h = simp (s, w) (expired-last m h)
 
-pub again-timer : (m : List ℕ) → sound m ≡ true → waiting m ≡ true → expiries m < 4 → Timer (expiry m .memory) true (expiries m + 1)
-again-timer m s w h = rw (expiry-again m s w h) (timer-waits m (expiries m + 1) (opened m s))
+pub again-timer : (p : ℕ) (m : List ℕ) → soundIn p m ≡ true → waiting m ≡ true → expiries m < 4 → Timer (expiry p m .memory) true (expiries m + 1)
+again-timer p m s w h = rw (expiry-again p m s w h) (timer-waits m (expiries m + 1) (opened m (in-sound p m s)))
 
-pub given-up-timer : (m : List ℕ) → sound m ≡ true → waiting m ≡ true → 4 ≤ expiries m → Timer (expiry m .memory) false 0
-given-up-timer m s w h = rw (expiry-given-up m s w h) (idled-timer whenGivenUp m s w)
+pub given-up-timer : (p : ℕ) (m : List ℕ) → soundIn p m ≡ true → waiting m ≡ true → 4 ≤ expiries m → Timer (expiry p m .memory) false 0
+given-up-timer p m s w h = rw (expiry-given-up p m s w h) (idled-timer whenGivenUp m (in-sound p m s) w)
 
 -- ---- building (RULES 14.6, 14.7)
 
-pub build-does : (m room : List ℕ) → sound m ≡ true → 1600 ≤ length room → waiting m ≡ false → nonempty (reports m entryCount) ≡ true
-    → build m room ≡ done (notification m) (turned whenSent entryCount (setTimer m 1 0)) room
+pub build-does : (p : ℕ) (m room : List ℕ) → soundIn p m ≡ true → 1600 ≤ length room → waiting m ≡ false → nonempty (reports p m entryCount) ≡ true
+    → build p m room ≡ done (notification p m) (turned whenSent entryCount (setTimer m 1 0)) room
 unfolding build call whenPassed buildChecks firstFailed
-build-does m room s h w n = simp (s, le-leb 1600 (length room) h, w, n)
+build-does p m room s h w n = simp (s, le-leb 1600 (length room) h, w, n)
 
 -- what a notification that was built leaves: waiting, no expiry yet, in flight what was pending and nothing pending, every subscription, presence and value
 pub record Built (m m′ : List ℕ) : Type 0 where
@@ -93,8 +95,8 @@ built m s =
       values = λ j hj. T .values j hj ∙ body-setTimer m 1 0 S j hj;
     }
 
-pub build-leaves : (m room : List ℕ) → build m room .number ≡ 0 → Built m (build m room .memory)
+pub build-leaves : (p : ℕ) (m room : List ℕ) → build p m room .number ≡ 0 → Built m (build p m room .memory)
 unfolding build buildChecks
-build-leaves m room e =
-    let f = call-passed (buildChecks m (length room)) _ m room e in
-    rw (call-done (buildChecks m (length room)) _ m room f) (built m (first-passed 0 _ _ f .0))
+build-leaves p m room e =
+    let f = call-passed (buildChecks p m (length room)) _ m room e in
+    rw (call-done (buildChecks p m (length room)) _ m room f) (built m (in-sound p m (first-passed 0 _ _ f .0)))

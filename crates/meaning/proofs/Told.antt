@@ -74,24 +74,24 @@ or-last true = refl
 or-last false = refl
 
 -- the report of one place tells its name alone
-one-told : (m : List ℕ) (k n : ℕ) → tellsIn (gathered (report m k ∷ [])) n ≡ eqb (rowAt k .name) n
+one-told : (p : ℕ) (m : List ℕ) (k n : ℕ) → tellsIn (gathered (report p m k ∷ [])) n ≡ eqb (rowAt k .name) n
 unfolding gathered recordOf heldNamed failedNamed
-one-told m k n = go (present m k) refl
+one-told p m k n = go (present m k) refl
   where
-    go : (b : Bool) → present m k ≡ b → tellsIn (gathered (report m k ∷ [])) n ≡ eqb (rowAt k .name) n
-    go true e = rw (report-value m k e) (or-first (eqb (rowAt k .name) n))
-    go false e = rw (report-absent m k e) (or-last (eqb (rowAt k .name) n))
+    go : (b : Bool) → present m k ≡ b → tellsIn (gathered (report p m k ∷ [])) n ≡ eqb (rowAt k .name) n
+    go true e = rw (report-value p m k e) (or-first (eqb (rowAt k .name) n))
+    go false e = rw (report-absent p m k e) (or-last (eqb (rowAt k .name) n))
 
-told-next : (m : List ℕ) (j n : ℕ) → tellsIn (gathered (reports m (suc j))) n ≡ (tellsIn (gathered (reports m j)) n || (pending m j && eqb (rowAt j .name) n))
+told-next : (p : ℕ) (m : List ℕ) (j n : ℕ) → tellsIn (gathered (reports p m (suc j))) n ≡ (tellsIn (gathered (reports p m j)) n || (pending m j && eqb (rowAt j .name) n))
 unfolding reports
-told-next m j n =
-    let r = cond (pending m j) (report m j ∷ []) [] in
-    ap (λ (x : Records). tellsIn x n) (gathered-append (reports m j) r)
-    ∙ tells-joined (gathered (reports m j)) (gathered r) n
-    ∙ ap (λ (b : Bool). tellsIn (gathered (reports m j)) n || b) (go (pending m j))
+told-next p m j n =
+    let r = cond (pending m j) (report p m j ∷ []) [] in
+    ap (λ (x : Records). tellsIn x n) (gathered-append (reports p m j) r)
+    ∙ tells-joined (gathered (reports p m j)) (gathered r) n
+    ∙ ap (λ (b : Bool). tellsIn (gathered (reports p m j)) n || b) (go (pending m j))
   where
-    go : (b : Bool) → tellsIn (gathered (cond b (report m j ∷ []) [])) n ≡ (b && eqb (rowAt j .name) n)
-    go true = one-told m j n
+    go : (b : Bool) → tellsIn (gathered (cond b (report p m j ∷ []) [])) n ≡ (b && eqb (rowAt j .name) n)
+    go true = one-told p m j n
     go false = unfold gathered heldNamed failedNamed in refl
 
 -- no two places have one name
@@ -105,43 +105,43 @@ all-placed = refl
 pub place-of-name : (k : ℕ) → k < entryCount → place (rowAt k .name) ≡ k
 place-of-name k hk = eqb-true _ _ (below-at entryCount placed all-placed k hk)
 
-told-pending : (m : List ℕ) (j k : ℕ) → j ≤ entryCount → k < entryCount → tellsIn (gathered (reports m j)) (rowAt k .name) ≡ true → pending m k ≡ true
-told-pending m zero k hj hk e = absurd (false≢true (unfold reports gathered heldNamed failedNamed in e))
-told-pending m (suc j) k hj hk e = go (or-cases _ _ (sym (told-next m j (rowAt k .name)) ∙ e)) (told-pending m j k (omega arith) hk)
+told-pending : (p : ℕ) (m : List ℕ) (j k : ℕ) → j ≤ entryCount → k < entryCount → tellsIn (gathered (reports p m j)) (rowAt k .name) ≡ true → pending m k ≡ true
+told-pending p m zero k hj hk e = absurd (false≢true (unfold reports gathered heldNamed failedNamed in e))
+told-pending p m (suc j) k hj hk e = go (or-cases _ _ (sym (told-next p m j (rowAt k .name)) ∙ e)) (told-pending p m j k (omega arith) hk)
   where
-    go : (tellsIn (gathered (reports m j)) (rowAt k .name) ≡ true) ⊎ ((pending m j && eqb (rowAt j .name) (rowAt k .name)) ≡ true)
-        → (tellsIn (gathered (reports m j)) (rowAt k .name) ≡ true → pending m k ≡ true) → pending m k ≡ true
+    go : (tellsIn (gathered (reports p m j)) (rowAt k .name) ≡ true) ⊎ ((pending m j && eqb (rowAt j .name) (rowAt k .name)) ≡ true)
+        → (tellsIn (gathered (reports p m j)) (rowAt k .name) ≡ true → pending m k ≡ true) → pending m k ≡ true
     go (inl h) ih = ih h
     go (inr h) ih =
         let same = eqb-true (rowAt j .name) (rowAt k .name) (and-right (pending m j) _ h) in
         let y : j ≡ k = sym (place-of-name j (omega arith)) ∙ ap place same ∙ place-of-name k hk in
         ap (pending m) (sym y) ∙ and-left _ _ h
 
-pending-told : (m : List ℕ) (j k : ℕ) → k < j → pending m k ≡ true → tellsIn (gathered (reports m j)) (rowAt k .name) ≡ true
-pending-told m zero k h e = absurd (omega arith)
-pending-told m (suc j) k h e = told-next m j (rowAt k .name) ∙ go (ℕ-discrete k j) (λ l. pending-told m j k l e)
+pending-told : (p : ℕ) (m : List ℕ) (j k : ℕ) → k < j → pending m k ≡ true → tellsIn (gathered (reports p m j)) (rowAt k .name) ≡ true
+pending-told p m zero k h e = absurd (omega arith)
+pending-told p m (suc j) k h e = told-next p m j (rowAt k .name) ∙ go (ℕ-discrete k j) (λ l. pending-told p m j k l e)
   where
-    go : Dec (k ≡ j) → (k < j → tellsIn (gathered (reports m j)) (rowAt k .name) ≡ true)
-        → (tellsIn (gathered (reports m j)) (rowAt k .name) || (pending m j && eqb (rowAt j .name) (rowAt k .name))) ≡ true
-    go (yes y) ih = or-right (tellsIn (gathered (reports m j)) (rowAt k .name)) _ (rw (sym y, e, eq-eqb (rowAt k .name) (rowAt k .name) refl))
+    go : Dec (k ≡ j) → (k < j → tellsIn (gathered (reports p m j)) (rowAt k .name) ≡ true)
+        → (tellsIn (gathered (reports p m j)) (rowAt k .name) || (pending m j && eqb (rowAt j .name) (rowAt k .name))) ≡ true
+    go (yes y) ih = or-right (tellsIn (gathered (reports p m j)) (rowAt k .name)) _ (rw (sym y, e, eq-eqb (rowAt k .name) (rowAt k .name) refl))
     go (no ne) ih = or-left _ _ (ih (omega arith))
 
 -- a notification tells of exactly the pending names
-pub told-exactly : (m : List ℕ) (k : ℕ) → k < entryCount → tells (notification m) (rowAt k .name) ≡ pending m k
-told-exactly m k hk =
-    ap (λ (r : Records). tellsIn r (rowAt k .name)) (notification-read m)
-    ∙ alike _ _ (told-pending m entryCount k (omega arith) hk) (pending-told m entryCount k hk)
+pub told-exactly : (p : ℕ) (m : List ℕ) (k : ℕ) → k < entryCount → tells (notification p m) (rowAt k .name) ≡ pending m k
+told-exactly p m k hk =
+    ap (λ (r : Records). tellsIn r (rowAt k .name)) (notification-read p m)
+    ∙ alike _ _ (told-pending p m entryCount k (omega arith) hk) (pending-told p m entryCount k hk)
 
-pub reports-some : (m : List ℕ) (j k : ℕ) → k < j → pending m k ≡ true → nonempty (reports m j) ≡ true
-reports-some m j k h e = go (reports m j) (pending-told m j k h e)
+pub reports-some : (p : ℕ) (m : List ℕ) (j k : ℕ) → k < j → pending m k ≡ true → nonempty (reports p m j) ≡ true
+reports-some p m j k h e = go (reports p m j) (pending-told p m j k h e)
   where
     go : (rs : List Answer) → tellsIn (gathered rs) (rowAt k .name) ≡ true → nonempty rs ≡ true
     go [] t = absurd (false≢true (unfold gathered heldNamed failedNamed in t))
     go (r ∷ rs) t = refl
 
 -- so does the notification that a build writes
-pub build-tells : (m room : List ℕ) (k : ℕ) → k < entryCount → build m room .number ≡ 0 → tells (build m room .written) (rowAt k .name) ≡ pending m k
+pub build-tells : (p : ℕ) (m room : List ℕ) (k : ℕ) → k < entryCount → build p m room .number ≡ 0 → tells (build p m room .written) (rowAt k .name) ≡ pending m k
 unfolding build buildChecks
-build-tells m room k hk e =
-    let f = call-passed (buildChecks m (length room)) _ m room e in
-    ap (λ (o : Outcome). tells (o .written) (rowAt k .name)) (call-done (buildChecks m (length room)) _ m room f) ∙ told-exactly m k hk
+build-tells p m room k hk e =
+    let f = call-passed (buildChecks p m (length room)) _ m room e in
+    ap (λ (o : Outcome). tells (o .written) (rowAt k .name)) (call-done (buildChecks p m (length room)) _ m room f) ∙ told-exactly p m k hk

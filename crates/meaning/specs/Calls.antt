@@ -6,10 +6,11 @@ use lib.ListN.{length, drop}
 use lib.Dec.{eqb, leb, ltb}
 use Rattle.meaning.specs.Octets.{octet, at16, be16, part, same, nonempty, every, implies}
 use Rattle.meaning.specs.Checks.{Checks, passed, check, firstFailed, whenPassed}
-use Rattle.meaning.specs.Table.{rowAt, place, listed, byPort, entryCount, memoryLength}
-use Rattle.meaning.specs.Wire.{typeCommand, typeNotify, typeNotifyAck, typeNotifyComplete, causeUnavailable, messageMost, replyMost, notificationRoom, expiriesMost}
+use Rattle.meaning.specs.Table.{rowAt, place, byPort, entryCount, memoryLength}
+use Rattle.meaning.specs.Wire.{typeCommand, typeNotify, typeNotifyAck, typeNotifyComplete, messageMost, replyMost, notificationRoom, expiriesMost}
 use Rattle.meaning.specs.Block.{permits}
-use Rattle.meaning.specs.Memory.{present, subscribed, pending, inFlight, body, flags, put, setMarks, setTimer, waiting, expiries, sound, fresh}
+use Rattle.meaning.specs.Memory.{present, subscribed, pending, inFlight, body, flags, put, setMarks, setTimer, waiting, expiries, fresh}
+use Rattle.meaning.specs.Profile.{causeAbsent, soundIn}
 use Rattle.meaning.specs.Operation.{Op, parse, isSome, orNone, breakOf}
 use Rattle.meaning.specs.Step.{Answer, value, readError, after, answers}
 use Rattle.meaning.specs.Reply.{Records, gathered, complete, countsFit, readContents}
@@ -74,8 +75,8 @@ lengthField s = at16 s 1
 unfoldable pub operations : List ℕ → List ℕ
 operations s = part s 3 (lengthField s)
 
-unfoldable pub opsOf : List ℕ → List Op
-opsOf s = orNone (parse (operations s))
+unfoldable pub opsOf : ℕ → List ℕ → List Op
+opsOf p s = orNone (parse p (operations s))
 
 -- what L has to be (RULES 10.2)
 unfoldable pub lengthRight : List ℕ → Bool
@@ -87,48 +88,48 @@ pub record Handled : Type 0 where
   pub counted : Bool
   pub memory : List ℕ
 
-unfoldable pub records : List ℕ → List Op → Records
-records m os = gathered (answers m os)
+unfoldable pub records : ℕ → List ℕ → List Op → Records
+records p m os = gathered (answers p m os)
 
-unfoldable pub carriedOut : List ℕ → List Op → Handled
-carriedOut m os = record { reply = complete (records m os); counted = countsFit (records m os); memory = after m os }
+unfoldable pub carriedOut : ℕ → List ℕ → List Op → Handled
+carriedOut p m os = record { reply = complete p (records p m os); counted = countsFit (records p m os); memory = after p m os }
 
 unfoldable pub acknowledged : List ℕ → Handled
 acknowledged m = record { reply = typeNotifyComplete ∷ []; counted = true; memory = setTimer (turned whenAcknowledged entryCount m) 0 0 }
 
-unfoldable pub handled : List ℕ → List ℕ → Handled
-handled m s = cond (isCommand s) (carriedOut m (opsOf s)) (acknowledged m)
+unfoldable pub handled : ℕ → List ℕ → List ℕ → Handled
+handled p m s = cond (isCommand s) (carriedOut p m (opsOf p s)) (acknowledged m)
 
 unfoldable pub fits : ℕ → Handled → Bool
 fits n d = every (leb (length (d .reply)) n ∷ leb (length (d .reply)) replyMost ∷ d .counted ∷ [])
 
 -- in the order of RULES 15.16
-unfoldable pub messageChecks : List ℕ → List ℕ → ℕ → Checks
-messageChecks m s n =
-    check 1 (sound m)
+unfoldable pub messageChecks : ℕ → List ℕ → List ℕ → ℕ → Checks
+messageChecks p m s n =
+    check 1 (soundIn p m)
     (check 2 (leb 1 (length s))
     (check 3 (leb (length s) messageMost)
     (check 4 (isCommand s || isAcknowledgement s)
     (check 5 (implies (isCommand s) (lengthRight s))
-    (check 6 (implies (isCommand s) (isSome (parse (operations s))))
+    (check 6 (implies (isCommand s) (isSome (parse p (operations s))))
     (check 8 (implies (isAcknowledgement s) (waiting m))
-    (check 7 (fits n (handled m s)) passed)))))))
+    (check 7 (fits n (handled p m s)) passed)))))))
 
 -- an outcome that tells the position p where its number is 6, and 0 with every other (RULES 15.27, 15.28)
 abbrev pub located : ℕ → Outcome → Outcome
 located p o = record { number = o .number; position = cond (eqb (o .number) 6) p 0; written = o .written; memory = o .memory; room = o .room }
 
-unfoldable pub message : List ℕ → List ℕ → List ℕ → Outcome
-message m s room =
-    located (breakOf (operations s))
-    (call (messageChecks m s (length room)) (done (handled m s .reply) (handled m s .memory) room) m room)
+unfoldable pub message : ℕ → List ℕ → List ℕ → List ℕ → Outcome
+message p m s room =
+    located (breakOf p (operations s))
+    (call (messageChecks p m s (length room)) (done (handled p m s .reply) (handled p m s .memory) room) m room)
 
 -- ---- a local value (RULES 13)
 
 unfoldable pub localPermitted : ℕ → List ℕ → Bool
 localPermitted n v =
     every
-    (listed n
+    (ltb (place n) entryCount
     ∷ byPort (rowAt (place n) .owner)
     ∷ (not (nonempty v) || permits (rowAt (place n)) v)
     ∷ [])
@@ -142,37 +143,37 @@ unfoldable pub localMemory : List ℕ → ℕ → List ℕ → List ℕ
 localMemory m k v =
     put m k (flags (nonempty v) (subscribed m k) (pending m k || (subscribed m k && differs m k v)) (inFlight m k)) v
 
-unfoldable pub localChecks : List ℕ → ℕ → List ℕ → Checks
-localChecks m n v = check 1 (sound m) (check 12 (localPermitted n v) passed)
+unfoldable pub localChecks : ℕ → List ℕ → ℕ → List ℕ → Checks
+localChecks p m n v = check 1 (soundIn p m) (check 12 (localPermitted n v) passed)
 
-unfoldable pub localValue : List ℕ → ℕ → List ℕ → Outcome
-localValue m n v = call (localChecks m n v) (numberOnly 0 (localMemory m (place n) v) []) m []
+unfoldable pub localValue : ℕ → List ℕ → ℕ → List ℕ → Outcome
+localValue p m n v = call (localChecks p m n v) (numberOnly 0 (localMemory m (place n) v) []) m []
 
 -- ---- a notification (RULES 14.1 to 14.7)
 
-unfoldable pub report : List ℕ → ℕ → Answer
-report m k = cond (present m k) (value (rowAt k .name) (body m k)) (readError (rowAt k .name) causeUnavailable)
+unfoldable pub report : ℕ → List ℕ → ℕ → Answer
+report p m k = cond (present m k) (value (rowAt k .name) (body m k)) (readError (rowAt k .name) (causeAbsent p))
 
 -- of the pending names among the first k, in table order
-unfoldable pub reports : List ℕ → ℕ → List Answer
-reports m zero = []
-reports m (suc k) = reports m k ++ cond (pending m k) (report m k ∷ []) []
+unfoldable pub reports : ℕ → List ℕ → ℕ → List Answer
+reports p m zero = []
+reports p m (suc k) = reports p m k ++ cond (pending m k) (report p m k ∷ []) []
 
-unfoldable pub notification : List ℕ → List ℕ
-notification m =
-    let c = readContents (gathered (reports m entryCount)) in
+unfoldable pub notification : ℕ → List ℕ → List ℕ
+notification p m =
+    let c = readContents (gathered (reports p m entryCount)) in
     typeNotify ∷ be16 (length c) ++ c
 
-unfoldable pub buildChecks : List ℕ → ℕ → Checks
-buildChecks m n =
-    check 1 (sound m)
+unfoldable pub buildChecks : ℕ → List ℕ → ℕ → Checks
+buildChecks p m n =
+    check 1 (soundIn p m)
     (check 11 (leb notificationRoom n)
     (check 10 (not (waiting m))
-    (check 9 (nonempty (reports m entryCount)) passed)))
+    (check 9 (nonempty (reports p m entryCount)) passed)))
 
-unfoldable pub build : List ℕ → List ℕ → Outcome
-build m room =
-    call (buildChecks m (length room)) (done (notification m) (turned whenSent entryCount (setTimer m 1 0)) room) m room
+unfoldable pub build : ℕ → List ℕ → List ℕ → Outcome
+build p m room =
+    call (buildChecks p m (length room)) (done (notification p m) (turned whenSent entryCount (setTimer m 1 0)) room) m room
 
 -- ---- a timer expiry: 20 send again, 21 given up (RULES 14.8 to 14.10)
 
@@ -182,11 +183,11 @@ expired m =
     (numberOnly 20 (setTimer m 1 (expiries m + 1)) [])
     (numberOnly 21 (setTimer (turned whenGivenUp entryCount m) 0 0) [])
 
-unfoldable pub expiryChecks : List ℕ → Checks
-expiryChecks m = check 1 (sound m) (check 8 (waiting m) passed)
+unfoldable pub expiryChecks : ℕ → List ℕ → Checks
+expiryChecks p m = check 1 (soundIn p m) (check 8 (waiting m) passed)
 
-unfoldable pub expiry : List ℕ → Outcome
-expiry m = call (expiryChecks m) (expired m) m []
+unfoldable pub expiry : ℕ → List ℕ → Outcome
+expiry p m = call (expiryChecks p m) (expired m) m []
 
 -- ---- make it fresh (RULES 6.4)
 

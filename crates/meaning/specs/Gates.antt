@@ -9,7 +9,8 @@ use Rattle.meaning.specs.Octets.{octet}
 use Rattle.meaning.specs.Checks.{Checks, passed, check, firstFailed, whenPassed}
 use Rattle.meaning.specs.Table.{commit}
 use Rattle.meaning.specs.Block.{interval, cycle, listOf, ratioOf}
-use Rattle.meaning.specs.Memory.{present, body, sound}
+use Rattle.meaning.specs.Memory.{present, body}
+use Rattle.meaning.specs.Profile.{soundIn}
 
 -- What is answered (RULES 22.3 to 22.5): the number that refuses; that the schedule has not started; an entry of the list, told by its gate
 -- states, its number and the nanoseconds to the next change.
@@ -38,11 +39,11 @@ gatesOf b (pos i) =
     entryAt (length (listOf b) / 7 - 1) (listOf b) 0 0 (i % c) c
 
 -- in the order of RULES 22.3
-unfoldable pub gatesChecks : List ℕ → Checks
-gatesChecks m = check 1 (sound m) (check 15 (present m commit) passed)
+unfoldable pub gatesChecks : ℕ → List ℕ → Checks
+gatesChecks p m = check 1 (soundIn p m) (check 15 (present m commit) passed)
 
-unfoldable pub gates : List ℕ → ℤ → Gates
-gates m instant = whenPassed (firstFailed (gatesChecks m)) (gatesOf (body m commit) instant) refused
+unfoldable pub gates : ℕ → List ℕ → ℤ → Gates
+gates p m instant = whenPassed (firstFailed (gatesChecks p m)) (gatesOf (body m commit) instant) refused
 
 -- the number of an answer: 0 unless it is refused
 unfoldable pub gatesNumber : Gates → ℕ

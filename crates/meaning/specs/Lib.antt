@@ -5,6 +5,7 @@ pub mod Table
 pub mod Wire
 pub mod Block
 pub mod Memory
+pub mod Profile
 pub mod Delay
 pub mod Operation
 pub mod Step

@@ -6,6 +6,7 @@ use mathlib.Core.Option.{Option, none, some}
 use lib.ListN.{length, drop}
 use lib.Dec.{eqb, leb}
 use Rattle.meaning.specs.Octets.{at16, part}
+use Rattle.meaning.specs.Profile.{hasCode}
 use Rattle.meaning.specs.Wire.{codeCapabilities, codeRead, codeSet, codeSubscribe, codeUnsubscribe, codeSelectiveRead, codeSelectiveSubscribe, codeSelectiveUnsubscribe, codeDeleteEntry}
 
 pub data Op : Type 0 where
@@ -26,8 +27,8 @@ pub data Shape : Type 0 where
   valued : (ℕ → List ℕ → Op) → Shape
   malformed : Shape
 
-unfoldable pub shape : ℕ → Shape
-shape c =
+unfoldable pub shapeOf : ℕ → Shape
+shapeOf c =
     cond (eqb c codeCapabilities) (alone capabilities)
     (cond (eqb c codeRead) (named read)
     (cond (eqb c codeSet) (valued set)
@@ -38,6 +39,10 @@ shape c =
     (cond (eqb c codeSelectiveUnsubscribe) (valued selectiveUnsubscribe)
     (cond (eqb c codeDeleteEntry) (valued deleteEntry)
     malformed))))))))
+
+-- a code that the profile has not is malformed too (RULES 24.5)
+unfoldable pub shape : ℕ → ℕ → Shape
+shape p c = cond (hasCode p c) (shapeOf c) malformed
 
 -- an operation and the octets after it, or one that is malformed or cut short
 pub data Next : Type 0 where
@@ -64,15 +69,15 @@ follow bad rest = none
 follow (got o s) rest = more o (rest s)
 
 -- at most n octets parsed: each operation takes one or more
-unfoldable pub parseIn : ℕ → List ℕ → Option (List Op)
-parseIn zero [] = some []
-parseIn zero (c ∷ s) = none
-parseIn (suc n) [] = some []
-parseIn (suc n) (c ∷ s) = follow (shaped (shape c) s) (λ r. parseIn n r)
+unfoldable pub parseIn : ℕ → ℕ → List ℕ → Option (List Op)
+parseIn p zero [] = some []
+parseIn p zero (c ∷ s) = none
+parseIn p (suc n) [] = some []
+parseIn p (suc n) (c ∷ s) = follow (shaped (shape p c) s) (λ r. parseIn p n r)
 
 -- the operations of a list of octets (RULES 10.10); none where one is malformed or cut short
-unfoldable pub parse : List ℕ → Option (List Op)
-parse s = parseIn (length s) s
+unfoldable pub parse : ℕ → List ℕ → Option (List Op)
+parse p s = parseIn p (length s) s
 
 abbrev pub isSome : Option (List Op) → Bool
 isSome none = false
@@ -90,19 +95,19 @@ fromBroken s bad rest = s
 fromBroken s (got o r) rest = rest r
 
 -- with at most n octets gone through, as by `parseIn`
-unfoldable pub brokenIn : ℕ → List ℕ → List ℕ
-brokenIn zero s = s
-brokenIn (suc n) [] = []
-brokenIn (suc n) (c ∷ s) = fromBroken (c ∷ s) (shaped (shape c) s) (λ r. brokenIn n r)
+unfoldable pub brokenIn : ℕ → ℕ → List ℕ → List ℕ
+brokenIn p zero s = s
+brokenIn p (suc n) [] = []
+brokenIn p (suc n) (c ∷ s) = fromBroken (c ∷ s) (shaped (shape p c) s) (λ r. brokenIn p n r)
 
 -- the octets from the first operation on that is malformed or cut short; none where each is whole
-unfoldable pub broken : List ℕ → List ℕ
-broken s = brokenIn (length s) s
+unfoldable pub broken : ℕ → List ℕ → List ℕ
+broken p s = brokenIn p (length s) s
 
 -- a place among the L octets as a position in the message, whose first octet is 0: its type and L stand before them (RULES 10.1)
 abbrev pub inMessage : ℕ → ℕ
 inMessage at = 3 + at
 
 -- the position of the first operation that is malformed or cut short, from the L octets (RULES 15.27)
-unfoldable pub breakOf : List ℕ → ℕ
-breakOf s = inMessage (length s - length (broken s))
+unfoldable pub breakOf : ℕ → List ℕ → ℕ
+breakOf p s = inMessage (length s - length (broken p s))

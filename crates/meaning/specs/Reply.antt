@@ -7,6 +7,7 @@ use lib.Dec.{leb}
 use Rattle.meaning.specs.Octets.{be16, flat, nonempty, every}
 use Rattle.meaning.specs.Table.{Row, rows}
 use Rattle.meaning.specs.Wire.{typeComplete, elementCapability, elementStatus, elementUpdateResult, countMost, shortMost}
+use Rattle.meaning.specs.Profile.{listed}
 use Rattle.meaning.specs.Step.{Answer, names, value, readError, update, updateError, silent}
 
 -- a name and a value; a name and a cause
@@ -95,9 +96,9 @@ setContents r =
     ++ (length (r .updateErrors) ∷ flat failedOctets (r .updateErrors)
     ++ longOctets (r .longUpdates))
 
--- contents of element 70 (RULES 12.4)
-unfoldable pub allNames : List ℕ
-allNames = flat (λ (r : Row). be16 (r .name)) rows
+-- contents of element 70: the listed names in table order (RULES 12.4, 24.3)
+unfoldable pub allNames : ℕ → List ℕ
+allNames p = flat (λ (r : Row). cond (listed p (r .name)) (be16 (r .name)) []) rows
 
 -- an element where it is needed (RULES 12.2)
 unfoldable pub element : ℕ → Bool → List ℕ → List ℕ
@@ -110,9 +111,9 @@ anyRead r = nonempty (r .values) || nonempty (r .readErrors)
 abbrev pub anySet : Records → Bool
 anySet r = nonempty (r .updates) || (nonempty (r .updateErrors) || nonempty (r .longUpdates))
 
-unfoldable pub complete : Records → List ℕ
-complete r =
-    typeComplete ∷ element elementCapability (r .capabilities) allNames
+unfoldable pub complete : ℕ → Records → List ℕ
+complete p r =
+    typeComplete ∷ element elementCapability (r .capabilities) (allNames p)
     ++ (element elementStatus (anyRead r) (readContents r)
     ++ element elementUpdateResult (anySet r) (setContents r))
 

@@ -3,7 +3,7 @@ use Prim.Native.Nat.{ℕ, suc, _+_}
 use mathlib.Core.Bool.{Bool, true, false, cond}
 use mathlib.Core.List.{List, [], _∷_}
 use lib.ListN.{getD, take}
-use lib.Dec.{eqb, ltb}
+use lib.Dec.{eqb}
 
 -- who sets a parameter (RULES 4.2)
 pub data Owner : Type 0 where
@@ -90,9 +90,6 @@ placeIn (r ∷ rs) n = cond (eqb (r .name) n) 0 (suc (placeIn rs n))
 
 unfoldable pub place : ℕ → ℕ
 place n = placeIn rows n
-
-unfoldable pub listed : ℕ → Bool
-listed n = ltb (place n) entryCount
 
 unfoldable pub byController : Owner → Bool
 byController controller = true

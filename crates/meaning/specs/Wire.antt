@@ -78,10 +78,6 @@ causeProtocolError = 0x6F
 
 -- ---- limits
 
--- octets of all names, each of 2
-abbrev pub namesLength : ℕ
-namesLength = 38
-
 -- octets of a message, and of a reply
 abbrev pub messageMost : ℕ
 messageMost = 2048

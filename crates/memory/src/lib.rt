@@ -8,6 +8,7 @@ ghost use lib.ListN.{length};
 ghost use Rattle.meaning.specs.Octets.{octet, be16, splice};
 ghost use Rattle.meaning.specs.Table.{entryCount, memoryLength, rowAt, adminBaseTime, adminControlListLength, adminCycleTime, commit};
 ghost use Rattle.meaning.specs.Memory.{flagsAt, flagLimit, cell, room, isPresent, isSubscribed, isPending, size, present, subscribed, pending, inFlight, body, waiting, expiries, bit, flags, putCell, putRoom, put, store, setMarks, setTimer, fourPresent, absent, fresh};
+ghost use Rattle.meaning.specs.Profile.{onWire};
 ghost use Rattle.meaning.specs.Step.{block};
 ghost use Rattle.meaning.specs.Moves.{noneInFlight};
 
@@ -95,6 +96,20 @@ pub fn body(m: &[u8], k: usize) -> &[u8]
     let n = size(cell(m, k));
     let s = room(m, k);
     if n < s.len() { &s[0..n] } else { s }
+}
+
+// The value at a place as the wire has it in a profile.
+pub fn sent_body(m: &[u8], k: usize, profile: u8) -> &[u8]
+    requires { ⌜ (length (now m) ≡ memoryLength) × (k < entryCount) ⌝ }
+    ensures { λ r. ⌜ now r ≡ onWire profile k (body (now (m .entry)) k) ⌝ }
+{
+    let v = body(m, k);
+    let spare = table::spared(profile, k);
+    if spare < v.len() {
+        &v[spare..]
+    } else {
+        &v[v.len()..]
+    }
 }
 
 // Whether a notification waits for its acknowledgement.

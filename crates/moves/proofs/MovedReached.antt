@@ -6,23 +6,24 @@ use mathlib.Core.List.{List, _∷_}
 use lib.ListN.{length, drop}
 use lib.Dec.{eqb}
 use Rattle.meaning.specs.Calls.{Outcome}
-use Rattle.meaning.specs.FormB.{behind, soundFormB}
+use Rattle.meaning.specs.FormB.{profileOf, behind, soundFormB}
 use Rattle.meaning.specs.Moves.{noneInFlight, soundOld, forward, back}
 use Rattle.meaning.proofs.Moved.{forward-done, back-done, there-and-back, back-and-there}
 use Rattle.moves.specs.declared.Moved.{Moved}
-use Rattle.moves.specs.declared.Moved.the-variants.{Done, MemoryUnsound, RoomNotExact, InFlight}
+use Rattle.moves.specs.declared.Moved.the-variants.{Done, MemoryUnsound, RoomNotExact, NotRelease18, InFlight}
 use Rattle.moves.specs.Moved.{numberOf, lengthOf, Gives}
 
 -- ---- one answer
 
 answer : ℕ → ℕ → Moved
-answer k n = cond (eqb k 17) InFlight (cond (eqb k 16) RoomNotExact (cond (eqb k 1) MemoryUnsound (Done n)))
+answer k n = cond (eqb k 17) InFlight (cond (eqb k 19) NotRelease18 (cond (eqb k 16) RoomNotExact (cond (eqb k 1) MemoryUnsound (Done n))))
 
 answer-is : (r : Moved) → answer (numberOf r) (lengthOf r) ≡ r
 unfolding answer numberOf lengthOf
 answer-is (Done n) = refl
 answer-is MemoryUnsound = refl
 answer-is RoomNotExact = refl
+answer-is NotRelease18 = refl
 answer-is InFlight = refl
 
 pub one-moved : (o : Outcome) (r q : Moved) (m m′ room room′ : List ℕ) → Gives o r m room → Gives o q m′ room′ → (r ≡ q) × (m ≡ m′) × (room ≡ room′)
@@ -41,10 +42,10 @@ there-and-back-reached m room room′ first second r q s h h′ g k =
     let t = ap (λ (b : List ℕ). back b room′) (e ∙ sym (ap (λ (o : Outcome). o .written) f)) ∙ there-and-back m room room′ s h h′ in
     (g .number ∙ ap (λ (o : Outcome). o .number) f, e, k .number ∙ ap (λ (o : Outcome). o .number) t, k .roomIs ∙ ap (λ (o : Outcome). o .room) t)
 
-pub back-and-there-reached : (b room room′ first second : List ℕ) (r q : Moved) → soundFormB b ≡ true → noneInFlight (behind b) ≡ true → length room ≡ 2100 → length room′ ≡ 2101
+pub back-and-there-reached : (b room room′ first second : List ℕ) (r q : Moved) → soundFormB b ≡ true → profileOf b ≡ 2 → noneInFlight (behind b) ≡ true → length room ≡ 2100 → length room′ ≡ 2101
     → Gives (back b room) r b first → Gives (forward first room′) q first second → (numberOf r ≡ 0) × (first ≡ drop 1 b) × (numberOf q ≡ 0) × (second ≡ b)
-back-and-there-reached b room room′ first second r q s n h h′ g k =
-    let f = back-done b room s h n in
+back-and-there-reached b room room′ first second r q s p n h h′ g k =
+    let f = back-done b room s h p n in
     let e : first ≡ drop 1 b = g .roomIs ∙ ap (λ (o : Outcome). o .room) f in
-    let t = ap (λ (m : List ℕ). forward m room′) (e ∙ sym (ap (λ (o : Outcome). o .written) f)) ∙ back-and-there b room room′ s n h h′ in
+    let t = ap (λ (m : List ℕ). forward m room′) (e ∙ sym (ap (λ (o : Outcome). o .written) f)) ∙ back-and-there b room room′ s p n h h′ in
     (g .number ∙ ap (λ (o : Outcome). o .number) f, e, k .number ∙ ap (λ (o : Outcome). o .number) t, k .roomIs ∙ ap (λ (o : Outcome). o .room) t)

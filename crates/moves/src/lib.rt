@@ -10,11 +10,13 @@ pub const OLD_LENGTH: usize = table::MEMORY_LENGTH;
 pub const FORM_B_LENGTH: usize = table::FORM_LENGTH;
 
 // What a move answers: done, with the length of what it wrote; or why nothing was done. The memory is not sound in the form
-// that is to be read; the room is not exactly as long as the other form; a change is in flight, which the old form cannot say.
+// that is to be read; the room is not exactly as long as the other form; the profile is not that of the old form; a change is in
+// flight, which the old form cannot say.
 pub enum Moved {
     Done(usize),
     MemoryUnsound,
     RoomNotExact,
+    NotRelease18,
     InFlight,
 }
 
@@ -26,6 +28,7 @@ pub fn number(moved: Moved) -> usize
         Moved::Done(_) => 0,
         Moved::MemoryUnsound => 1,
         Moved::RoomNotExact => 16,
+        Moved::NotRelease18 => 19,
         Moved::InFlight => 17,
     }
 }
@@ -40,7 +43,7 @@ pub fn written(moved: Moved) -> usize
     n
 }
 
-// From the old form to form B. A port that waits still waits, with nothing in flight.
+// From the old form to form B, of the same profile. A port that waits still waits, with nothing in flight.
 pub fn forward(memory: &[u8], room: &mut [u8]) -> Moved
     ensures { λ r. ⌜ Gives (forward (now (memory .entry)) (now (room .entry))) r (now (memory .entry)) (now (room .exit)) ⌝ }
 {
@@ -50,7 +53,7 @@ pub fn forward(memory: &[u8], room: &mut [u8]) -> Moved
     if room.len() != FORM_B_LENGTH {
         return Moved::RoomNotExact;
     }
-    room[table::FORM_AT] = table::FORM_B;
+    room[table::PROFILE_AT] = wire::RELEASE_18;
     Moved::Done(octets::append(room, table::BEHIND_AT, memory))
 }
 
@@ -63,6 +66,9 @@ pub fn back(memory: &[u8], room: &mut [u8]) -> Moved
     }
     if room.len() != OLD_LENGTH {
         return Moved::RoomNotExact;
+    }
+    if memory[table::PROFILE_AT] != wire::RELEASE_18 {
+        return Moved::NotRelease18;
     }
     let m = &memory[table::BEHIND_AT..];
     if !memory::none_in_flight(m) {

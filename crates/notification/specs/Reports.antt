@@ -16,8 +16,8 @@ partOf true rs = flat heldOctets (gathered rs .values)
 partOf false rs = flat failedOctets (gathered rs .readErrors)
 
 -- what the mark at a place makes due
-unfoldable pub dueAt : List ℕ → ℕ → List Answer
-dueAt m k = cond (pending m k) (report m k ∷ []) []
+unfoldable pub dueAt : ℕ → List ℕ → ℕ → List Answer
+dueAt p m k = cond (pending m k) (report p m k ∷ []) []
 
 -- some reports, counted
 unfoldable pub dueOf : List Answer → Due

@@ -1,6 +1,6 @@
 // Notifications: what is due to be reported, its octets, and what becomes of the marks. The first two go by the pending marks
 // of a sound memory, in table order.
-ghost use Prim.Native.Nat.{_+_, _≤_, _<_};
+ghost use Prim.Native.Nat.{ℕ, _+_, _≤_, _<_};
 ghost use mathlib.Core.Path.{_≡_};
 ghost use mathlib.Core.Bool.{true};
 ghost use lib.ListN.{length};
@@ -22,7 +22,7 @@ pub struct Due {
 // One entry more: what its pending mark makes due.
 fn with_entry(d: Due, m: &[u8], k: usize) -> Due
     requires { ⌜ (length (now m) ≡ memoryLength) × (k < entryCount) × Few 18 d ⌝ }
-    ensures { λ r. ⌜ r ≡ more d (dueAt (now (m .entry)) k) ⌝ }
+    ensures { λ r. ⌜ ((p : ℕ) → r ≡ more d (dueAt p (now (m .entry)) k)) ⌝ }
 {
     let mut r = d;
     if !memory::pending(m, k) {
@@ -37,10 +37,10 @@ fn with_entry(d: Due, m: &[u8], k: usize) -> Due
     r
 }
 
-// What the pending marks make due.
+// What the pending marks make due; in every profile as many records, and the same values.
 pub fn count(m: &[u8]) -> Due
     requires { ⌜ length (now m) ≡ memoryLength ⌝ }
-    ensures { λ r. ⌜ r ≡ dueOf (reports (now (m .entry)) entryCount) ⌝ }
+    ensures { λ r. ⌜ ((p : ℕ) → r ≡ dueOf (reports p (now (m .entry)) entryCount)) ⌝ }
 {
     let mut d = Due {
         values: 0,
@@ -55,10 +55,10 @@ pub fn count(m: &[u8]) -> Due
     d
 }
 
-// The record of the entry at a place, if one of this kind is due: a value, or cause 03 of an absent name.
-fn write_entry(m: &[u8], k: usize, values: bool, out: &mut [u8], at: usize) -> usize
-    requires { ⌜ (length (now m) ≡ memoryLength) × (k < entryCount) × (at + length (partOf values (dueAt (now m) k)) ≤ length (now out)) ⌝ }
-    ensures { λ r. ⌜ Wrote (now (out .entry)) at (partOf values (dueAt (now (m .entry)) k)) r (now (out .exit)) ⌝ }
+// The record of the entry at a place, if one of this kind is due: a value, or the cause of an absent one.
+fn write_entry(m: &[u8], k: usize, values: bool, out: &mut [u8], at: usize, profile: u8) -> usize
+    requires { ⌜ (length (now m) ≡ memoryLength) × (k < entryCount) × (at + length (partOf values (dueAt profile (now m) k)) ≤ length (now out)) ⌝ }
+    ensures { λ r. ⌜ Wrote (now (out .entry)) at (partOf values (dueAt profile (now (m .entry)) k)) r (now (out .exit)) ⌝ }
 {
     if !memory::pending(m, k) {
         return at;
@@ -73,27 +73,27 @@ fn write_entry(m: &[u8], k: usize, values: bool, out: &mut [u8], at: usize) -> u
     if values {
         return at;
     }
-    records::write_failed(out, at, row.name, wire::CAUSE_UNAVAILABLE)
+    records::write_failed(out, at, row.name, table::absent_cause(profile))
 }
 
 // The records of one kind: the values, or the absent names.
-fn write_kind(m: &[u8], values: bool, out: &mut [u8], at: usize) -> usize
-    requires { ⌜ (length (now m) ≡ memoryLength) × (at + length (partOf values (reports (now m) entryCount)) ≤ length (now out)) ⌝ }
-    ensures { λ r. ⌜ Wrote (now (out .entry)) at (partOf values (reports (now (m .entry)) entryCount)) r (now (out .exit)) ⌝ }
+fn write_kind(m: &[u8], values: bool, out: &mut [u8], at: usize, profile: u8) -> usize
+    requires { ⌜ (length (now m) ≡ memoryLength) × (at + length (partOf values (reports profile (now m) entryCount)) ≤ length (now out)) ⌝ }
+    ensures { λ r. ⌜ Wrote (now (out .entry)) at (partOf values (reports profile (now (m .entry)) entryCount)) r (now (out .exit)) ⌝ }
 {
     let mut to = at;
     let mut k: usize = 0;
     while k < table::ENTRY_COUNT {
-        to = write_entry(m, k, values, out, to);
+        to = write_entry(m, k, values, out, to, profile);
         k += 1;
     }
     to
 }
 
 // A notification of what is due; the place after it.
-pub fn write(m: &[u8], d: Due, out: &mut [u8]) -> usize
-    requires { ⌜ (sound (now m) ≡ true) × (d ≡ dueOf (reports (now m) entryCount)) × (notificationRoom ≤ length (now out)) ⌝ }
-    ensures { λ r. ⌜ Wrote (now (out .entry)) 0 (notification (now (m .entry))) r (now (out .exit)) ⌝ }
+pub fn write(m: &[u8], d: Due, out: &mut [u8], profile: u8) -> usize
+    requires { ⌜ (sound (now m) ≡ true) × (d ≡ dueOf (reports profile (now m) entryCount)) × (notificationRoom ≤ length (now out)) ⌝ }
+    ensures { λ r. ⌜ Wrote (now (out .entry)) 0 (notification profile (now (m .entry))) r (now (out .exit)) ⌝ }
 {
     let head = records::write_head(
         out,
@@ -102,9 +102,9 @@ pub fn write(m: &[u8], d: Due, out: &mut [u8]) -> usize
         2 + d.octets + wire::ERROR_LENGTH * d.absent,
     );
     let values = records::write_count(out, head, d.values);
-    let count = write_kind(m, true, out, values);
+    let count = write_kind(m, true, out, values, profile);
     let absent = records::write_count(out, count, d.absent);
-    write_kind(m, false, out, absent)
+    write_kind(m, false, out, absent, profile)
 }
 
 // What comes of a notification: it is sent, acknowledged, or given up.

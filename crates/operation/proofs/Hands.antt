@@ -3,18 +3,17 @@ use Prim.Native.Nat.{ℕ, suc, _+_, _-_, _≤_, _<_}
 use native.Mathlib.Decide.{decLe}
 use native.Mathlib.Omega.{arith}
 use mathlib.Core.Path.{_≡_, refl, sym, ap, _∙_}
-use mathlib.Core.Bool.{Bool, true, false, cond}
 use mathlib.Core.List.{List}
 use lib.ListN.{length, drop, getD, length-drop, drop-of-length-le}
 use lib.Seq.{drop-cons, getD-drop}
 use lib.Dec.{eqb}
 use Rattle.meaning.specs.Octets.{at16, part}
-use Rattle.meaning.specs.Operation.{capabilities, read, set, subscribe, unsubscribe, selectiveRead, selectiveSubscribe, selectiveUnsubscribe, deleteEntry, Shape, alone, named, valued, malformed, shape, Next, whole, shaped}
+use Rattle.meaning.specs.Operation.{capabilities, read, set, subscribe, unsubscribe, selectiveRead, selectiveSubscribe, selectiveUnsubscribe, deleteEntry, Shape, alone, named, valued, malformed, shapeOf, shape, Next, whole, shaped}
 use Rattle.meaning.specs.Operation as operation
 use Rattle.meaning.proofs.Lists.{length-part}
 use Rattle.operation.specs.declared.Handed.{Handed}
 use Rattle.operation.specs.Handing.{opOf, Inside, opAt, foundAt, handedFrom, handedAt}
-use Rattle.operation.proofs.Found.{whole-there, whole-cut, rest, rest-length, rest-drop, rest-part}
+use Rattle.operation.proofs.Found.{whole-there, whole-cut, either, in-profile, rest, rest-length, rest-drop, rest-part}
 use Rattle.operation.proofs.Turns.{found, first, handing, Reached, HandsOut}
 
 module _ (s : List ℕ) (octets : (i : ℕ) → getD s i 0 < 256) (at : ℕ) where
@@ -57,37 +56,40 @@ module _ (s : List ℕ) (octets : (i : ℕ) → getD s i 0 < 256) (at : ℕ) whe
         let e : length v ≡ z = length-part behind 4 z l in
         k (at16 behind 0) v name-small (ap (part s (at + 5)) e ∙ sym (rest-part s at h 4 (at + 5) z (omega arith))) (omega (arith, e, l, rest-length s at h)))
 
-    either-hands : (b : Bool) (x y : Shape) → Meets (shaped x behind) → Meets (shaped y behind) → Meets (shaped (cond b x y) behind)
-    either-hands true x y p q = p
-    either-hands false x y p q = q
+    -- a shape whose operation is handed out
+    abbrev Shows : Shape → Type 0
+    Shows sh = Meets (shaped sh behind)
 
-    alone-hands : Meets (shaped (alone capabilities) behind)
+    alone-hands : Shows (alone capabilities)
     unfolding shaped handing foundAt opOf opAt
     alone-hands =
         let e : length s - length behind ≡ suc at = omega (arith, rest-length s at h) in
         rw e (refl, (omega arith, omega arith, tt))
 
-    malformed-hands : Meets (shaped malformed behind)
+    malformed-hands : Shows malformed
     unfolding shaped handing foundAt
     malformed-hands = (refl, refl)
 
-    shape-hands : (c : ℕ) → Meets (shaped (shape c) behind)
-    unfolding shape opOf opAt
-    shape-hands c =
-        either-hands (eqb c 1) _ _ alone-hands
-        (either-hands (eqb c 2) _ _ (named-hands read (λ n b. (refl, b)))
-        (either-hands (eqb c 3) _ _ (valued-hands set (λ n v b p l. (ap (set n) p, (b, l))))
-        (either-hands (eqb c 4) _ _ (named-hands subscribe (λ n b. (refl, b)))
-        (either-hands (eqb c 5) _ _ (named-hands unsubscribe (λ n b. (refl, b)))
-        (either-hands (eqb c 6) _ _ (valued-hands selectiveRead (λ n v b p l. (ap (selectiveRead n) p, (b, l))))
-        (either-hands (eqb c 7) _ _ (valued-hands selectiveSubscribe (λ n v b p l. (ap (selectiveSubscribe n) p, (b, l))))
-        (either-hands (eqb c 8) _ _ (valued-hands selectiveUnsubscribe (λ n v b p l. (ap (selectiveUnsubscribe n) p, (b, l))))
-        (either-hands (eqb c 9) _ _ (valued-hands deleteEntry (λ n v b p l. (ap (deleteEntry n) p, (b, l)))) malformed-hands))))))))
+    known-hands : (c : ℕ) → Shows (shapeOf c)
+    unfolding shapeOf opOf opAt
+    known-hands c =
+        either Shows (eqb c 1) _ _ alone-hands
+        (either Shows (eqb c 2) _ _ (named-hands read (λ n b. (refl, b)))
+        (either Shows (eqb c 3) _ _ (valued-hands set (λ n v b e l. (ap (set n) e, (b, l))))
+        (either Shows (eqb c 4) _ _ (named-hands subscribe (λ n b. (refl, b)))
+        (either Shows (eqb c 5) _ _ (named-hands unsubscribe (λ n b. (refl, b)))
+        (either Shows (eqb c 6) _ _ (valued-hands selectiveRead (λ n v b e l. (ap (selectiveRead n) e, (b, l))))
+        (either Shows (eqb c 7) _ _ (valued-hands selectiveSubscribe (λ n v b e l. (ap (selectiveSubscribe n) e, (b, l))))
+        (either Shows (eqb c 8) _ _ (valued-hands selectiveUnsubscribe (λ n v b e l. (ap (selectiveUnsubscribe n) e, (b, l))))
+        (either Shows (eqb c 9) _ _ (valued-hands deleteEntry (λ n v b e l. (ap (deleteEntry n) e, (b, l)))) malformed-hands))))))))
 
-  hands : Dec (length s ≤ at) → HandsOut s at (handedAt s at)
-  unfolding handedAt handedFrom handing first
-  hands (yes l) = rw (drop-of-length-le s l) (refl, tt)
-  hands (no l) = rw (drop-cons s at 0 (omega arith)) (shape-hands (omega arith) (getD s at 0))
+    shape-hands : (p c : ℕ) → Shows (shape p c)
+    shape-hands p c = in-profile Shows p c (known-hands c) malformed-hands
 
-  pub hands-out : (r : Handed) → r ≡ handedAt s at → HandsOut s at r
-  hands-out r e = rw e (hands (decLe (length s) at))
+hands : (p : ℕ) (s : List ℕ) → ((i : ℕ) → getD s i 0 < 256) → (at : ℕ) → Dec (length s ≤ at) → HandsOut p s at (handedAt p s at)
+unfolding handedAt handedFrom handing first
+hands p s octets at (yes l) = rw (drop-of-length-le s l) (refl, tt)
+hands p s octets at (no l) = rw (drop-cons s at 0 (omega arith)) (shape-hands s octets at (omega arith) p (getD s at 0))
+
+pub hands-out : (p : ℕ) (s : List ℕ) → ((i : ℕ) → getD s i 0 < 256) → (at : ℕ) (r : Handed) → r ≡ handedAt p s at → HandsOut p s at r
+hands-out p s octets at r e = rw e (hands p s octets at (decLe (length s) at))

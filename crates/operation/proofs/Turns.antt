@@ -25,77 +25,77 @@ pub data Handing : Type 0 where
   ended : Handing
   found : Next → Handing
 
-unfoldable pub first : List ℕ → Handing
-first [] = ended
-first (c ∷ s) = found (shaped (shape c) s)
+unfoldable pub first : ℕ → List ℕ → Handing
+first p [] = ended
+first p (c ∷ s) = found (shaped (shape p c) s)
 
 unfoldable pub handing : List ℕ → Handed → Handing
 handing s (Operation o next) = found (got (opOf s o) (drop next s))
-handing s (Malformed p) = found bad
+handing s (Malformed q) = found bad
 handing s End = ended
 
 -- the place after an operation lies ahead, and within n octets; the position of one that is malformed is that of the place in the message
 abbrev pub Reached : ℕ → ℕ → Handed → Type 0
 Reached n at (Operation o next) = (at < next) × (next ≤ n) × Inside n o
-Reached n at (Malformed p) = p ≡ inMessage at
+Reached n at (Malformed q) = q ≡ inMessage at
 Reached n at End = Unit {0}
 
 -- r is what the list s hands out at a place, wherever a value lies
-abbrev pub HandsOut : List ℕ → ℕ → Handed → Type 0
-HandsOut s at r = (handing s r ≡ first (drop at s)) × Reached (length s) at r
+abbrev pub HandsOut : ℕ → List ℕ → ℕ → Handed → Type 0
+HandsOut p s at r = (handing s r ≡ first p (drop at s)) × Reached (length s) at r
 
 -- ---- what is parsed
 
 -- what is parsed where the first operation is known
-unfoldable parsed : Handing → Option (List operation.Op)
-parsed ended = some []
-parsed (found nx) = follow nx parse
+unfoldable parsed : ℕ → Handing → Option (List operation.Op)
+parsed p ended = some []
+parsed p (found nx) = follow nx (parse p)
 
-parse-first : (s : List ℕ) → parse s ≡ parsed (first s)
+parse-first : (p : ℕ) (s : List ℕ) → parse p s ≡ parsed p (first p s)
 unfolding parsed first
-parse-first [] = parse-nil
-parse-first (c ∷ s) = parse-step c s
+parse-first p [] = parse-nil p
+parse-first p (c ∷ s) = parse-step p c s
 
-parse-handing : (s : List ℕ) (at : ℕ) (r : Handed) → handing s r ≡ first (drop at s) → parse (drop at s) ≡ parsed (handing s r)
-parse-handing s at r e = parse-first (drop at s) ∙ ap parsed (sym e)
+parse-handing : (p : ℕ) (s : List ℕ) (at : ℕ) (r : Handed) → handing s r ≡ first p (drop at s) → parse p (drop at s) ≡ parsed p (handing s r)
+parse-handing p s at r e = parse-first p (drop at s) ∙ ap (parsed p) (sym e)
 
 -- an operation: the rest is parsed from the place after it
-pub turn : (s : List ℕ) (at next : ℕ) (o : Op) → handing s (Operation o next) ≡ first (drop at s)
-    → parse (drop at s) ≡ more (opOf s o) (parse (drop next s))
+pub turn : (p : ℕ) (s : List ℕ) (at next : ℕ) (o : Op) → handing s (Operation o next) ≡ first p (drop at s)
+    → parse p (drop at s) ≡ more (opOf s o) (parse p (drop next s))
 unfolding parsed handing follow
-turn s at next o e = parse-handing s at (Operation o next) e
+turn p s at next o e = parse-handing p s at (Operation o next) e
 
-pub turn-malformed : (s : List ℕ) (at p : ℕ) → handing s (Malformed p) ≡ first (drop at s) → parse (drop at s) ≡ none
+pub turn-malformed : (p : ℕ) (s : List ℕ) (at q : ℕ) → handing s (Malformed q) ≡ first p (drop at s) → parse p (drop at s) ≡ none
 unfolding parsed handing follow
-turn-malformed s at p e = parse-handing s at (Malformed p) e
+turn-malformed p s at q e = parse-handing p s at (Malformed q) e
 
-pub turn-end : (s : List ℕ) (at : ℕ) → handing s End ≡ first (drop at s) → parse (drop at s) ≡ some []
+pub turn-end : (p : ℕ) (s : List ℕ) (at : ℕ) → handing s End ≡ first p (drop at s) → parse p (drop at s) ≡ some []
 unfolding parsed handing
-turn-end s at e = parse-handing s at End e
+turn-end p s at e = parse-handing p s at End e
 
-more-some : (o : operation.Op) (p : Option (List operation.Op)) → isSome (more o p) ≡ isSome p
+more-some : (o : operation.Op) (q : Option (List operation.Op)) → isSome (more o q) ≡ isSome q
 unfolding more
 more-some o none = refl
 more-some o (some os) = refl
 
-more-ops : (o : operation.Op) (p : Option (List operation.Op)) → isSome (more o p) ≡ true → orNone (more o p) ≡ o ∷ orNone p
+more-ops : (o : operation.Op) (q : Option (List operation.Op)) → isSome (more o q) ≡ true → orNone (more o q) ≡ o ∷ orNone q
 unfolding more
 more-ops o none e = absurd (false≢true e)
 more-ops o (some os) e = refl
 
-module _ (s : List ℕ) (at next : ℕ) (o : Op) (e : handing s (Operation o next) ≡ first (drop at s)) where
+module _ (p : ℕ) (s : List ℕ) (at next : ℕ) (o : Op) (e : handing s (Operation o next) ≡ first p (drop at s)) where
   -- the octets from here are whole where those after the operation are
-  pub turn-some : isSome (parse (drop at s)) ≡ isSome (parse (drop next s))
-  turn-some = ap isSome (turn s at next o e) ∙ more-some (opOf s o) (parse (drop next s))
+  pub turn-some : isSome (parse p (drop at s)) ≡ isSome (parse p (drop next s))
+  turn-some = ap isSome (turn p s at next o e) ∙ more-some (opOf s o) (parse p (drop next s))
 
-  pub turn-whole : isSome (parse (drop at s)) ≡ true → isSome (parse (drop next s)) ≡ true
+  pub turn-whole : isSome (parse p (drop at s)) ≡ true → isSome (parse p (drop next s)) ≡ true
   turn-whole w = sym turn-some ∙ w
 
   -- the operations from here are this one and those after it
-  pub turn-ops : isSome (parse (drop at s)) ≡ true → orNone (parse (drop at s)) ≡ opOf s o ∷ orNone (parse (drop next s))
+  pub turn-ops : isSome (parse p (drop at s)) ≡ true → orNone (parse p (drop at s)) ≡ opOf s o ∷ orNone (parse p (drop next s))
   turn-ops w =
-      ap orNone (turn s at next o e)
-      ∙ more-ops (opOf s o) (parse (drop next s)) (sym (ap isSome (turn s at next o e)) ∙ w)
+      ap orNone (turn p s at next o e)
+      ∙ more-ops (opOf s o) (parse p (drop next s)) (sym (ap isSome (turn p s at next o e)) ∙ w)
 
 -- ---- what is broken
 
@@ -104,53 +104,53 @@ nextOf : Handing → Next
 nextOf ended = bad
 nextOf (found nx) = nx
 
-first-known : (s : List ℕ) (h : Handing) → h ≡ first s → firstOf s ≡ nextOf h
+first-known : (p : ℕ) (s : List ℕ) (h : Handing) → h ≡ first p s → firstOf p s ≡ nextOf h
 unfolding first nextOf
-first-known [] h e = ap nextOf (sym e)
-first-known (c ∷ s) h e = ap nextOf (sym e)
+first-known p [] h e = ap nextOf (sym e)
+first-known p (c ∷ s) h e = ap nextOf (sym e)
 
 -- an operation: from here on and from the place after it the same is broken
-pub turn-broken : (s : List ℕ) (at next : ℕ) (o : Op) → handing s (Operation o next) ≡ first (drop at s) → broken (drop at s) ≡ broken (drop next s)
+pub turn-broken : (p : ℕ) (s : List ℕ) (at next : ℕ) (o : Op) → handing s (Operation o next) ≡ first p (drop at s) → broken p (drop at s) ≡ broken p (drop next s)
 unfolding handing nextOf
-turn-broken s at next o e = broken-got (drop at s) (opOf s o) (drop next s) (first-known (drop at s) (handing s (Operation o next)) e)
+turn-broken p s at next o e = broken-got p (drop at s) (opOf s o) (drop next s) (first-known p (drop at s) (handing s (Operation o next)) e)
 
 -- one that is malformed or cut short: all from here on
-pub turn-breaks : (s : List ℕ) (at p : ℕ) → handing s (Malformed p) ≡ first (drop at s) → broken (drop at s) ≡ drop at s
+pub turn-breaks : (p : ℕ) (s : List ℕ) (at q : ℕ) → handing s (Malformed q) ≡ first p (drop at s) → broken p (drop at s) ≡ drop at s
 unfolding handing nextOf
-turn-breaks s at p e = broken-bad (drop at s) (first-known (drop at s) (handing s (Malformed p)) e)
+turn-breaks p s at q e = broken-bad p (drop at s) (first-known p (drop at s) (handing s (Malformed q)) e)
 
 -- ---- whether a list is whole
 
-pub is-whole : (s : List ℕ) → isSome (parse s) ≡ true → Whole ≡ wholeness s
+pub is-whole : (p : ℕ) (s : List ℕ) → isSome (parse p s) ≡ true → Whole ≡ wholeness p s
 unfolding wholeness
-is-whole s w = rw w
+is-whole p s w = rw w
 
-pub breaks-at : (s : List ℕ) (at p : ℕ) → at ≤ length s → isSome (parse s) ≡ false → broken s ≡ drop at s → p ≡ inMessage at → Broken p ≡ wholeness s
+pub breaks-at : (p : ℕ) (s : List ℕ) (at q : ℕ) → at ≤ length s → isSome (parse p s) ≡ false → broken p s ≡ drop at s → q ≡ inMessage at → Broken q ≡ wholeness p s
 unfolding wholeness breakOf
-breaks-at s at p h w e k = rw (w, e, k) (ap Broken (omega (arith, length-drop at s, h)))
+breaks-at p s at q h w e k = rw (w, e, k) (ap Broken (omega (arith, length-drop at s, h)))
 
 -- what an answer says of the list
 isWhole : Wholeness → Bool
 isWhole Whole = true
-isWhole (Broken p) = false
+isWhole (Broken q) = false
 
 positionIn : Wholeness → ℕ
 positionIn Whole = 0
-positionIn (Broken p) = p
+positionIn (Broken q) = q
 
-pub whole-some : (s : List ℕ) → Whole ≡ wholeness s → isSome (parse s) ≡ true
+pub whole-some : (p : ℕ) (s : List ℕ) → Whole ≡ wholeness p s → isSome (parse p s) ≡ true
 unfolding wholeness isWhole
-whole-some s e = go (isSome (parse s)) e
+whole-some p s e = go (isSome (parse p s)) e
   where
-    go : (b : Bool) → Whole ≡ cond b Whole (Broken (breakOf s)) → b ≡ true
+    go : (b : Bool) → Whole ≡ cond b Whole (Broken (breakOf p s)) → b ≡ true
     go true f = refl
     go false f = sym (ap isWhole f)
 
-pub broken-none : (s : List ℕ) (p : ℕ) → Broken p ≡ wholeness s → (isSome (parse s) ≡ false) × (p ≡ breakOf s)
+pub broken-none : (p : ℕ) (s : List ℕ) (q : ℕ) → Broken q ≡ wholeness p s → (isSome (parse p s) ≡ false) × (q ≡ breakOf p s)
 unfolding wholeness isWhole positionIn
-broken-none s p e = go (isSome (parse s)) e
+broken-none p s q e = go (isSome (parse p s)) e
   where
-    go : (b : Bool) → Broken p ≡ cond b Whole (Broken (breakOf s)) → (b ≡ false) × (p ≡ breakOf s)
+    go : (b : Bool) → Broken q ≡ cond b Whole (Broken (breakOf p s)) → (b ≡ false) × (q ≡ breakOf p s)
     go true f = absurd (false≢true (ap isWhole f))
     go false f = (refl, ap positionIn f)
 

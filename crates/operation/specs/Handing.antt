@@ -98,16 +98,16 @@ unfoldable pub foundAt : ℕ → ℕ → Next → Handed
 foundAt n at bad = Malformed (inMessage at)
 foundAt n at (got o behind) = Operation (opAt at o) (n - length behind)
 
--- the end where no octet is left at the place, else what the first operation of those left is
-unfoldable pub handedFrom : ℕ → ℕ → List ℕ → Handed
-handedFrom n at [] = End
-handedFrom n at (c ∷ s) = foundAt n at (shaped (shape c) s)
+-- the end where no octet is left at the place, else what the first operation of those left is in the profile p
+unfoldable pub handedFrom : ℕ → ℕ → ℕ → List ℕ → Handed
+handedFrom p n at [] = End
+handedFrom p n at (c ∷ s) = foundAt n at (shaped (shape p c) s)
 
 -- what the list s hands out at a place
-unfoldable pub handedAt : List ℕ → ℕ → Handed
-handedAt s at = handedFrom (length s) at (drop at s)
+unfoldable pub handedAt : ℕ → List ℕ → ℕ → Handed
+handedAt p s at = handedFrom p (length s) at (drop at s)
 
 -- ---- whether a list is whole, or where it breaks
 
-unfoldable pub wholeness : List ℕ → Wholeness
-wholeness s = cond (isSome (parse s)) Whole (Broken (breakOf s))
+unfoldable pub wholeness : ℕ → List ℕ → Wholeness
+wholeness p s = cond (isSome (parse p s)) Whole (Broken (breakOf p s))

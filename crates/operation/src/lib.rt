@@ -5,6 +5,7 @@ ghost use mathlib.Core.Path.{_≡_};
 ghost use lib.ListN.{length};
 ghost use Rattle.meaning.specs.Octets.{octet};
 ghost use Rattle.meaning.specs.Operation.{bad};
+ghost use Rattle.meaning.specs.Profile.{hasCode};
 ghost use Rattle.operation.specs.Handing.{nameOf, fromOf, sizeOf, NoValue, foundAt, handedAt, wholeness};
 
 // An operation. A value lies in the list: where it starts, and its length.
@@ -37,11 +38,19 @@ fn malformed_at(list: &[u8], at: usize) -> Handed
     Handed::Malformed(wire::COMMAND_HEAD + at)
 }
 
+// Whether a profile has a code: Release 16 has none above that of unsubscribe (RULES 24.5).
+fn has_code(profile: u8, code: u8) -> bool
+    ensures { λ r. ⌜ r ≡ hasCode profile code ⌝ }
+{
+    (profile != wire::RELEASE_16) | (code <= wire::CODE_UNSUBSCRIBE)
+}
+
 // The operation at a place whose code, if it is one at all, has a value: a set, or one of the four that are laid out as a set.
-// The code is asked last: octets that are too few are malformed in any case.
-fn valued_at(list: &[u8], at: usize) -> Handed
+// The code is asked last: octets that are too few are malformed in any case. Here alone the profile decides, since every profile
+// has the codes behind which no value stands.
+fn valued_at(list: &[u8], at: usize, profile: u8) -> Handed
     requires { ⌜ (at + 3 ≤ length (now list)) × (NoValue (octet (now list) at) → ⊥) ⌝ }
-    ensures { λ r. ⌜ r ≡ handedAt (now (list .entry)) at ⌝ }
+    ensures { λ r. ⌜ r ≡ handedAt profile (now (list .entry)) at ⌝ }
 {
     let left = list.len() - at;
     if left < 5 {
@@ -51,9 +60,13 @@ fn valued_at(list: &[u8], at: usize) -> Handed
     if left < 5 + size {
         return malformed_at(list, at);
     }
+    let code = list[at];
+    if !has_code(profile, code) {
+        return malformed_at(list, at);
+    }
     let name = octets::get16(list, at + 1);
     let from = at + 5;
-    let op = match list[at] {
+    let op = match code {
         wire::CODE_SET => Op::Set(name, from, size),
         wire::CODE_SELECTIVE_READ => Op::SelectiveRead(name, from, size),
         wire::CODE_SELECTIVE_SUBSCRIBE => Op::SelectiveSubscribe(name, from, size),
@@ -65,8 +78,8 @@ fn valued_at(list: &[u8], at: usize) -> Handed
 }
 
 // The operation at a place of a list; the end for every place past its last octet.
-pub fn operation_at(list: &[u8], at: usize) -> Handed
-    ensures { λ r. ⌜ r ≡ handedAt (now (list .entry)) at ⌝ }
+pub fn operation_at(list: &[u8], at: usize, profile: u8) -> Handed
+    ensures { λ r. ⌜ r ≡ handedAt profile (now (list .entry)) at ⌝ }
 {
     if list.len() <= at {
         return Handed::End;
@@ -85,7 +98,7 @@ pub fn operation_at(list: &[u8], at: usize) -> Handed
         wire::CODE_READ => Op::Read(name),
         wire::CODE_SUBSCRIBE => Op::Subscribe(name),
         wire::CODE_UNSUBSCRIBE => Op::Unsubscribe(name),
-        _ => return valued_at(list, at),
+        _ => return valued_at(list, at, profile),
     };
     Handed::Operation(op, at + 3)
 }
@@ -104,10 +117,10 @@ pub fn reader_of<'a>(list: &'a [u8]) -> Reader<'a>
 }
 
 // What a reader hands out at its place.
-pub fn next<'a>(r: Reader<'a>) -> Handed
-    ensures { λ h. ⌜ h ≡ handedAt (now (r .entry .list)) (r .entry .at) ⌝ }
+pub fn next<'a>(r: Reader<'a>, profile: u8) -> Handed
+    ensures { λ h. ⌜ h ≡ handedAt profile (now (r .entry .list)) (r .entry .at) ⌝ }
 {
-    operation_at(r.list, r.at)
+    operation_at(r.list, r.at, profile)
 }
 
 // The reader moved to another place.
@@ -118,10 +131,10 @@ pub fn moved<'a>(r: Reader<'a>, at: usize) -> Reader<'a>
 }
 
 // What a reader of a list hands out at a place. Its parameters are plain, so whoever calls it is proved without a walk of the code.
-pub fn hand_out(list: &[u8], at: usize) -> Handed
-    ensures { λ r. ⌜ r ≡ handedAt (now (list .entry)) at ⌝ }
+pub fn hand_out(list: &[u8], at: usize, profile: u8) -> Handed
+    ensures { λ r. ⌜ r ≡ handedAt profile (now (list .entry)) at ⌝ }
 {
-    next(moved(reader_of(list), at))
+    next(moved(reader_of(list), at), profile)
 }
 
 // Whether each octet of a list belongs to a whole operation; else the position in the message of the first one that is
@@ -132,12 +145,12 @@ pub enum Wholeness {
 }
 
 // The wholeness of a list.
-pub fn whole(list: &[u8]) -> Wholeness
-    ensures { λ r. ⌜ r ≡ wholeness (now (list .entry)) ⌝ }
+pub fn whole(list: &[u8], profile: u8) -> Wholeness
+    ensures { λ r. ⌜ r ≡ wholeness profile (now (list .entry)) ⌝ }
 {
     let mut at: usize = 0;
     loop {
-        match hand_out(list, at) {
+        match hand_out(list, at, profile) {
             Handed::Operation(_, next) => at = next,
             Handed::Malformed(position) => return Wholeness::Broken(position),
             Handed::End => return Wholeness::Whole,

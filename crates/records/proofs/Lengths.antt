@@ -1,12 +1,12 @@
--- How many octets each kind of record has, and the names of all rows.
-use Prim.Native.Nat.{ℕ, _+_, _*_}
+-- How many octets each kind of record has, and how many the names that a profile lists.
+use Prim.Native.Nat.{ℕ, _+_}
 use native.Mathlib.Omega.{arith}
 use mathlib.Core.Path.{_≡_, refl}
-use mathlib.Core.List.{List, [], _∷_}
 use lib.ListN.{length}
-use Rattle.meaning.specs.Octets.{be16, flat}
-use Rattle.meaning.specs.Table.{Row, rows}
+use Rattle.meaning.specs.Octets.{be16}
+use Rattle.meaning.specs.Profile.{namesLength}
 use Rattle.meaning.specs.Reply.{Held, Failed, heldOctets, shortOctets, failedOctets, allNames}
+use Rattle.meaning.proofs.Contents as contents
 
 pub held-length : (h : Held) → length (heldOctets h) ≡ 4 + length (h .value)
 unfolding heldOctets be16
@@ -20,15 +20,5 @@ pub failed-length : (f : Failed) → length (failedOctets f) ≡ 3
 unfolding failedOctets be16
 failed-length f = refl
 
-pub names-length : length allNames ≡ 38
-unfolding allNames flat rows be16
-names-length = refl
-
--- a row's name as it is written
-abbrev pub nameOctets : Row → List ℕ
-nameOctets r = be16 (r .name)
-
-pub some-names-length : (rs : List Row) → length (flat nameOctets rs) ≡ 2 * length rs
-unfolding flat be16
-some-names-length [] = refl
-some-names-length (r ∷ rs) = omega (arith, some-names-length rs)
+pub names-length : (p : ℕ) → length (allNames p) ≡ namesLength p
+names-length p = contents.names-length p

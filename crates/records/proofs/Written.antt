@@ -1,18 +1,13 @@
 -- What a record's octets, written one behind another, leave in a room: the room with the record in it.
-use Prim.Native.Nat.{ℕ, suc, _+_, _*_, _≤_, _<_}
+use Prim.Native.Nat.{ℕ, _+_, _≤_}
 use native.Mathlib.Omega.{arith}
-use native.Mathlib.Numerals.{add-one}
-use mathlib.Core.Path.{_≡_, refl, sym, ap, _∙_}
+use mathlib.Core.Path.{_≡_, refl}
 use mathlib.Core.List.{List, [], _∷_, _++_}
-use lib.ListN.{length, take, set, take-append-drop}
-use lib.Seq.{take-suc, length-take-le}
-use Rattle.meaning.specs.Octets.{be16, flat, splice}
-use Rattle.meaning.specs.Table.{row, nobody, free, rows, rowAt}
-use Rattle.meaning.specs.Reply.{heldOctets, shortOctets, failedOctets, allNames}
-use Rattle.meaning.proofs.Lists.{flat-append}
+use lib.ListN.{length, set}
+use Rattle.meaning.specs.Octets.{be16, splice}
+use Rattle.meaning.specs.Reply.{heldOctets, shortOctets, failedOctets}
 use Rattle.octets.specs.Writing.{Wrote}
 use Rattle.octets.proofs.Splices.{one-store, then}
-use Rattle.records.proofs.Lengths.{nameOctets, some-names-length}
 
 -- a value behind its head
 pub held-written : (s v : List ℕ) (at name : ℕ) {p q : ℕ} {s₁ s₂ : List ℕ} → at + (4 + length v) ≤ length s → Wrote s at (be16 name ++ be16 (length v)) p s₁
@@ -44,39 +39,3 @@ pub head-written : (s : List ℕ) (at id n : ℕ) {s₂ : List ℕ} → at + 3 �
     → s₂ ≡ splice s at (id ∷ be16 n)
 head-written s at id n h e =
     then s (id ∷ []) (be16 n) at (at + 1) (omega arith) refl (one-store s at id (omega arith)) e
-
--- ---- all names
-
--- the octets of the first k names
-abbrev pub firstNames : ℕ → List ℕ
-firstNames k = flat nameOctets (take k rows)
-
-count : length rows ≡ 19
-unfolding rows
-count = refl
-
-first-length : (k : ℕ) → k ≤ 19 → length (firstNames k) ≡ 2 * k
-first-length k h =
-    some-names-length (take k rows) ∙ ap (λ (n : ℕ). 2 * n) (length-take-le k rows (omega (arith, count)))
-
-one-more : (k : ℕ) → k < 19 → firstNames (suc k) ≡ firstNames k ++ be16 (rowAt k .name)
-unfolding rowAt flat be16
-one-more k h =
-    ap (flat nameOctets) (take-suc rows k (row 0 0 0 nobody free) (omega (arith, count)))
-    ∙ flat-append nameOctets (take k rows) (rowAt k ∷ [])
-
-pub none-written : (s : List ℕ) (at : ℕ) → s ≡ splice s at (firstNames 0)
-unfolding splice flat
-none-written s at =
-    let z : at + 0 ≡ at = omega arith in
-    rw z (sym (take-append-drop at s))
-
-pub name-written : (s : List ℕ) (at k : ℕ) {s₁ s₂ : List ℕ} → at + 38 ≤ length s → k < 19 → s₁ ≡ splice s at (firstNames k)
-    → s₂ ≡ splice s₁ (at + 2 * k) (be16 (rowAt k .name)) → s₂ ≡ splice s at (firstNames (k + 1))
-name-written s at k h l e₁ e₂ =
-    let n = first-length k (omega arith) in
-    rw (add-one, one-more k l) (then s (firstNames k) (be16 (rowAt k .name)) at (at + 2 * k) (omega arith) (omega arith) e₁ e₂)
-
-pub all-written : (s : List ℕ) (at k : ℕ) {s₁ : List ℕ} → k ≡ 19 → s₁ ≡ splice s at (firstNames k) → s₁ ≡ splice s at allNames
-unfolding allNames rows
-all-written s at k z e = e ∙ ap (λ (j : ℕ). splice s at (firstNames j)) z

@@ -1,10 +1,14 @@
-// The records of replies and notifications, each written at a place of a room; every function returns the place after it.
+// The records of replies and notifications, each written at a place of a room; what writes returns the place after it.
 // What has been written are the octets that `meaning` gives for the record; the room's other octets stay.
 ghost use Prim.Native.Nat.{_+_, _≤_, _<_};
+ghost use mathlib.Core.Path.{_≡_};
+ghost use mathlib.Core.Bool.{cond};
 ghost use mathlib.Core.List.{[], _∷_, _++_};
 ghost use lib.ListN.{length};
 ghost use Rattle.meaning.specs.Octets.{be16};
-ghost use Rattle.meaning.specs.Wire.{namesLength, countMost, shortMost};
+ghost use Rattle.meaning.specs.Table.{entryCount, rowAt};
+ghost use Rattle.meaning.specs.Wire.{countMost, shortMost};
+ghost use Rattle.meaning.specs.Profile.{lists, namesLength};
 ghost use Rattle.meaning.specs.Reply.{heldOctets, shortOctets, failedOctets, allNames};
 ghost use Rattle.octets.specs.Writing.{Wrote};
 
@@ -57,18 +61,42 @@ pub fn write_head(out: &mut [u8], at: usize, id: u8, n: usize) -> usize
     at + wire::ELEMENT_HEAD
 }
 
-// All 19 names in table order, each of 2 octets.
-pub fn write_names(out: &mut [u8], at: usize) -> usize
-    requires { ⌜ at + namesLength ≤ length (now out) ⌝ }
-    ensures { λ r. ⌜ Wrote (now (out .entry)) at allNames r (now (out .exit)) ⌝ }
+// The name at a place, where the profile lists it.
+fn write_name(out: &mut [u8], at: usize, k: usize, profile: u8) -> usize
+    requires { ⌜ (k < entryCount) × (at + length (cond (lists profile k) (be16 (rowAt k .name)) []) ≤ length (now out)) ⌝ }
+    ensures { λ r. ⌜ Wrote (now (out .entry)) at (cond (lists profile k) (be16 (rowAt k .name)) []) r (now (out .exit)) ⌝ }
 {
+    if !table::lists(profile, k) {
+        return at;
+    }
+    let row = table::row_at(k);
+    octets::put16(out, at, row.name);
+    at + wire::NAME_LENGTH
+}
+
+// The names that the profile lists, in table order, each of 2 octets.
+pub fn write_names(out: &mut [u8], at: usize, profile: u8) -> usize
+    requires { ⌜ at + namesLength profile ≤ length (now out) ⌝ }
+    ensures { λ r. ⌜ Wrote (now (out .entry)) at (allNames profile) r (now (out .exit)) ⌝ }
+{
+    let mut to = at;
     let mut k: usize = 0;
     while k < table::ENTRY_COUNT {
-        let row = table::row_at(k);
-        octets::put16(out, at + wire::NAME_LENGTH * k, row.name);
+        to = write_name(out, to, k, profile);
         k += 1;
     }
-    at + wire::NAMES_LENGTH
+    to
+}
+
+// The octets of those names.
+pub fn names_length(profile: u8) -> usize
+    ensures { λ r. ⌜ (r ≡ namesLength profile) × (r ≤ 38) ⌝ }
+{
+    if profile == wire::RELEASE_16 {
+        wire::NAMES_LENGTH_16
+    } else {
+        wire::NAMES_LENGTH
+    }
 }
 
 // One octet: a message's type, a count.

@@ -9,13 +9,14 @@ use lib.Dec.{eqb}
 use lib.ListN.{length}
 use borrow.Author.Tests.{ne-eqb, leb-true}
 use Rattle.meaning.specs.Octets.{be16, flat, nonempty}
+use Rattle.meaning.specs.Profile.{namesLength}
 use Rattle.meaning.specs.Operation.{parse, orNone}
 use Rattle.meaning.specs.Reply.{Held, Failed, Records, heldOctets, shortOctets, failedOctets, longOctets, readContents, setContents, allNames, element, anyRead, anySet, complete}
 use Rattle.meaning.proofs.Tests.{every-at}
 use Rattle.meaning.proofs.Kept.{after-sound}
 use Rattle.meaning.proofs.Records.{Fits, fits-opened}
 use Rattle.octets.specs.Writing.{Wrote}
-use Rattle.records.proofs.Lengths.{names-length}
+use Rattle.meaning.proofs.Contents.{names-length}
 use Rattle.records.proofs.Pieces.{Left, left-start, left-as, first-fits, left-next}
 use Rattle.command.proofs.Sets.{long-of}
 use Rattle.tally.specs.declared.Tally.{Tally}
@@ -27,16 +28,16 @@ use Rattle.reply.specs.Sections.{opening, secondCount, longLength, prefa
 
 -- ---- what is asked of a reply
 
-pub copy-long : (m list copy : List ℕ) (changed : Bool) → Ready m list copy changed → length copy ≡ 2100
-copy-long m list copy changed r = ap length (r .3) ∙ long-of _ (after-sound m (orNone (parse list)) (r .0))
+pub copy-long : (p : ℕ) (m list copy : List ℕ) (changed : Bool) → Ready p m list copy changed → length copy ≡ 2100
+copy-long p m list copy changed r = ap length (r .3) ∙ long-of _ (after-sound p m (orNone (parse p list)) (r .0))
 
-pub fits-of : (m list : List ℕ) (t : Tally) (n : ℕ) → Fitting m list t n → Fits n (recordsOf m list)
-fits-of m list t n f = fits-opened n m (orNone (parse list)) (sym (tally-fits n m (orNone (parse list))) ∙ rw (f .0) at (f .2))
+pub fits-of : (p : ℕ) (m list : List ℕ) (t : Tally) (n : ℕ) → Fitting p m list t n → Fits p n (recordsOf p m list)
+fits-of p m list t n f = fits-opened p n m (orNone (parse p list)) (sym (tally-fits p n m (orNone (parse p list))) ∙ rw (f .0) at (f .2))
 
 -- ---- a tally that fits has small numbers
 
-module _ (n : ℕ) (t : Tally) (f : tallyFits n t ≡ true) where
-  in-limit : replyLength t ≤ 4096
+module _ (p n : ℕ) (t : Tally) (f : tallyFits (replyLength p t) n t ≡ true) where
+  in-limit : replyLength p t ≤ 4096
   unfolding tallyFits
   in-limit = leb-true _ _ (every-at _ 1 f)
 
@@ -76,9 +77,9 @@ module _ (n : ℕ) (t : Tally) (f : tallyFits n t ≡ true) where
 
 -- ---- the elements by their pieces
 
-pub names-parts : element 0x70 true allNames ≡ (0x70 ∷ be16 38) ++ allNames
+pub names-parts : (p : ℕ) → element 0x70 true (allNames p) ≡ (0x70 ∷ be16 (namesLength p)) ++ allNames p
 unfolding element
-names-parts = rw names-length
+names-parts p = rw (names-length p)
 
 long-parts : (l : List Held) → longOctets l ≡ cond (eqb (length l) 0) [] (be16 (length (flat heldOctets l))) ++ flat heldOctets l
 unfolding longOctets flat
@@ -116,32 +117,32 @@ module _ (r : Records) where
       go [] (x ∷ f) l = rw (long-parts l) refl
       go (h ∷ u) f l = rw (long-parts l) refl
 
-  abbrev pub names : List ℕ
-  names = element 0x70 (r .capabilities) allNames
+  abbrev pub names : (p : ℕ) → List ℕ
+  names p = element 0x70 (r .capabilities) (allNames p)
 
   -- all pieces
   abbrev pub pieces : List ℕ
   pieces = flat (piece r) order
 
-  whole-pieces : complete r ≡ (2 ∷ []) ++ (names ++ pieces)
+  whole-pieces : (p : ℕ) → complete p r ≡ (2 ∷ []) ++ (names p ++ pieces)
   unfolding complete flat order
-  whole-pieces =
+  whole-pieces p =
       rw (read-pieces, set-pieces, append-nil (piece r LongUpdates))
-      (ap (λ (w : List ℕ). 2 ∷ names ++ w) (append-assoc (piece r Values) (piece r ReadErrors) (piece r Updates ++ (piece r UpdateErrors ++ piece r LongUpdates))))
+      (ap (λ (w : List ℕ). 2 ∷ names p ++ w) (append-assoc (piece r Values) (piece r ReadErrors) (piece r Updates ++ (piece r UpdateErrors ++ piece r LongUpdates))))
 
-module _ (r : Records) (out : List ℕ) (room : length (complete r) ≤ length out) where
-  whole-left : Left out 0 (complete r) out 0 ((2 ∷ []) ++ (names r ++ pieces r))
-  whole-left = left-as (whole-pieces r) (left-start out 0 (complete r) (omega (arith, room)))
+module _ (p : ℕ) (r : Records) (out : List ℕ) (room : length (complete p r) ≤ length out) where
+  whole-left : Left out 0 (complete p r) out 0 ((2 ∷ []) ++ (names r p ++ pieces r))
+  whole-left = left-as (whole-pieces r p) (left-start out 0 (complete p r) (omega (arith, room)))
 
   pub type-fits : 0 + 1 ≤ length out
-  type-fits = first-fits (2 ∷ []) (names r ++ pieces r) whole-left
+  type-fits = first-fits (2 ∷ []) (names r p ++ pieces r) whole-left
 
   module _ {e₁ : ℕ} {o₁ : List ℕ} (w₁ : Wrote out 0 (2 ∷ []) e₁ o₁) where
-    after-type : Left out 0 (complete r) o₁ e₁ (names r ++ pieces r)
-    after-type = left-next (2 ∷ []) (names r ++ pieces r) whole-left w₁
+    after-type : Left out 0 (complete p r) o₁ e₁ (names r p ++ pieces r)
+    after-type = left-next (2 ∷ []) (names r p ++ pieces r) whole-left w₁
 
-    pub names-fit : e₁ + length (names r) ≤ length o₁
-    names-fit = first-fits (names r) (pieces r) after-type
+    pub names-fit : e₁ + length (names r p) ≤ length o₁
+    names-fit = first-fits (names r p) (pieces r) after-type
 
-    pub after-names : {e₂ : ℕ} {o₂ : List ℕ} → Wrote o₁ e₁ (names r) e₂ o₂ → Left out 0 (complete r) o₂ e₂ (pieces r)
-    after-names w₂ = left-next (names r) (pieces r) after-type w₂
+    pub after-names : {e₂ : ℕ} {o₂ : List ℕ} → Wrote o₁ e₁ (names r p) e₂ o₂ → Left out 0 (complete p r) o₂ e₂ (pieces r)
+    after-names w₂ = left-next (names r p) (pieces r) after-type w₂

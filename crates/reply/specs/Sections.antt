@@ -14,7 +14,7 @@ use Rattle.meaning.specs.Reply.{Records}
 use Rattle.command.specs.Answers.{anyChange}
 use Rattle.tally.specs.declared.Count.{Count}
 use Rattle.tally.specs.declared.Tally.{Tally}
-use Rattle.tally.specs.Tallies.{tallyOf, readOctets, setOctets, anyRead, anySet, tallyFits, Below}
+use Rattle.tally.specs.Tallies.{tallyOf, readOctets, setOctets, anyRead, anySet, replyLength, tallyFits, Below}
 use Rattle.section.specs.Kinds.{Kind, Values, ReadErrors, Updates, UpdateErrors, LongUpdates, section, recordsOf}
 
 -- ---- the preface of a kind: what stands before its records, by the tally
@@ -66,14 +66,14 @@ begins t at LongUpdates = at + span t Values + span t ReadErrors + span t Update
 -- ---- what the code asks
 
 -- sound memory, a whole list, the copy that its operations have left, and whether they may have changed it
-abbrev pub Ready : List ℕ → List ℕ → List ℕ → Bool → Type 0
-Ready m list copy changed =
+abbrev pub Ready : (p : ℕ) → List ℕ → List ℕ → List ℕ → Bool → Type 0
+Ready p m list copy changed =
     (sound m ≡ true)
-    × (isSome (parse list) ≡ true)
+    × (isSome (parse p list) ≡ true)
     × (length list ≤ messageMost)
-    × (copy ≡ after m (orNone (parse list)))
-    × (changed ≡ anyChange (answers m (orNone (parse list))))
+    × (copy ≡ after p m (orNone (parse p list)))
+    × (changed ≡ anyChange (answers p m (orNone (parse p list))))
 
 -- the tally is that of the operations, and the reply fits so many octets
-abbrev pub Fitting : List ℕ → List ℕ → Tally → ℕ → Type 0
-Fitting m list t n = (t ≡ tallyOf (recordsOf m list)) × Below 16777216 t × (tallyFits n t ≡ true)
+abbrev pub Fitting : (p : ℕ) → List ℕ → List ℕ → Tally → ℕ → Type 0
+Fitting p m list t n = (t ≡ tallyOf (recordsOf p m list)) × Below 16777216 t × (tallyFits (replyLength p t) n t ≡ true)

@@ -1,6 +1,6 @@
 // A reply written once the tally says that all of it fits: the names, what stands before the records of each kind, and
 // then, in one pass over the operations, the records.
-ghost use Prim.Native.Nat.{_+_, _≤_, _<_};
+ghost use Prim.Native.Nat.{ℕ, _+_, _≤_, _<_};
 ghost use mathlib.Core.Path.{_≡_};
 ghost use mathlib.Core.Logic.{_≢_};
 ghost use mathlib.Core.Bool.{true};
@@ -12,7 +12,7 @@ ghost use Rattle.meaning.specs.Step.{after};
 ghost use Rattle.meaning.specs.Reply.{allNames, element, complete};
 ghost use Rattle.octets.specs.Writing.{Wrote};
 ghost use Rattle.octets.specs.Filling.{Apart, Filled};
-ghost use Rattle.tally.specs.Tallies.{tallyFits, Below};
+ghost use Rattle.tally.specs.Tallies.{replyLength, tallyFits, Below};
 ghost use Rattle.section.specs.Kinds.{order, recordsOf};
 ghost use Rattle.section.specs.Places.{placeOf};
 ghost use Rattle.reply.specs.Sections.{opening, secondCount, longLength, preface, begins, Ready, Fitting};
@@ -56,9 +56,9 @@ fn write_longs(longs: Count, out: &mut [u8], at: usize) -> usize
 }
 
 // The prefaces, what stands before the records of each kind; where the records go. The tally tells how long each section is, and so
-// where the next begins.
+// where the next begins. They are the same in each profile: that the reply fits is asked of any.
 fn write_prefaces(t: Tally, out: &mut [u8], at: usize) -> Places
-    requires { ⌜ Below 16777216 t × (tallyFits (length (now out)) t ≡ true) × Apart 0 order (begins t at) (preface t) (length (now out)) ⌝ }
+    requires { ⌜ Below 16777216 t × ((p : ℕ) × (tallyFits (replyLength p t) (length (now out)) t ≡ true)) × Apart 0 order (begins t at) (preface t) (length (now out)) ⌝ }
     ensures { λ r. ⌜ Filled order (begins t at) (preface t) (now (out .entry)) (placeOf r) (now (out .exit)) ⌝ }
 {
     let reads = tally::any_read(t);
@@ -91,28 +91,37 @@ fn write_prefaces(t: Tally, out: &mut [u8], at: usize) -> Places
 }
 
 // Element 70, where the names are asked.
-fn write_capabilities(needed: bool, out: &mut [u8], at: usize) -> usize
-    requires { ⌜ at + length (element elementCapability needed allNames) ≤ length (now out) ⌝ }
-    ensures { λ r. ⌜ Wrote (now (out .entry)) at (element elementCapability needed allNames) r (now (out .exit)) ⌝ }
+fn write_capabilities(needed: bool, out: &mut [u8], at: usize, profile: u8) -> usize
+    requires { ⌜ at + length (element elementCapability needed (allNames profile)) ≤ length (now out) ⌝ }
+    ensures { λ r. ⌜ Wrote (now (out .entry)) at (element elementCapability needed (allNames profile)) r (now (out .exit)) ⌝ }
 {
     if !needed {
         return at;
     }
-    let first = records::write_head(out, at, wire::ELEMENT_CAPABILITY, wire::NAMES_LENGTH);
-    records::write_names(out, first)
+    let n = records::names_length(profile);
+    let first = records::write_head(out, at, wire::ELEMENT_CAPABILITY, n);
+    records::write_names(out, first, profile)
 }
 
 // The whole reply at the start of a room that it fits. The copy holds afterwards what the operations leave; it is filled anew
 // where they have changed it.
-pub fn write(m: &[u8], list: &[u8], t: Tally, changed: bool, copy: &mut [u8], out: &mut [u8])
-    requires { ⌜ Ready (now m) (now list) (now copy) changed × Fitting (now m) (now list) t (length (now out)) ⌝ }
-    ensures { λ _. ⌜ now (copy .exit) ≡ after (now (m .entry)) (orNone (parse (now (list .entry)))) ⌝ }
-    ensures { λ _. ⌜ now (out .exit) ≡ complete (recordsOf (now (m .entry)) (now (list .entry))) ++ drop (length (complete (recordsOf (now (m .entry)) (now (list .entry))))) (now (out .entry)) ⌝ }
+pub fn write(
+    m: &[u8],
+    list: &[u8],
+    t: Tally,
+    changed: bool,
+    copy: &mut [u8],
+    out: &mut [u8],
+    profile: u8,
+)
+    requires { ⌜ Ready profile (now m) (now list) (now copy) changed × Fitting profile (now m) (now list) t (length (now out)) ⌝ }
+    ensures { λ _. ⌜ now (copy .exit) ≡ after profile (now (m .entry)) (orNone (parse profile (now (list .entry)))) ⌝ }
+    ensures { λ _. ⌜ now (out .exit) ≡ complete profile (recordsOf profile (now (m .entry)) (now (list .entry))) ++ drop (length (complete profile (recordsOf profile (now (m .entry)) (now (list .entry))))) (now (out .entry)) ⌝ }
 {
     let names = records::write_octet(out, 0, wire::TYPE_COMPLETE);
     let capabilities = t.capabilities;
-    let at = write_capabilities(capabilities, out, names);
+    let at = write_capabilities(capabilities, out, names, profile);
     let starts = write_prefaces(t, out, at);
     octets::renew(copy, m, changed);
-    section::write(list, starts, copy, out);
+    section::write(list, starts, copy, out, profile);
 }

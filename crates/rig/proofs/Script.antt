@@ -1,12 +1,14 @@
 -- An instruction taken in the program is one piece taken, and a faulty one is the last; what is known of the rest.
 use Prim.Native.Nat.{ℕ, _+_, _-_, _≤_, _<_}
 use native.Mathlib.Omega.{arith}
-use mathlib.Core.Path.{_≡_, sym, ap, subst, _∙_}
+use mathlib.Core.Path.{_≡_, refl, sym, ap, subst, _∙_}
+use mathlib.Core.Logic.{inl}
 use mathlib.Core.Bool.{true}
 use mathlib.Core.List.{List, [], _++_}
 use lib.ListN.{length, take, drop}
 use Rattle.meaning.specs.Octets.{octet}
 use Rattle.meaning.specs.Memory.{fresh}
+use Rattle.meaning.specs.Profile.{release18}
 use Rattle.meaning.specs.Calls.{Outcome}
 use Rattle.meaning.specs.FormB.{formLength, ahead, makeFresh}
 use Rattle.meaning.proofs.Contents.{fresh-spelt}
@@ -52,6 +54,6 @@ rest held p memory room {from} {lends} e f =
     let g : Serves held p (Rest from lends) memory room = rw e at f in
     (g .1, omega (arith, g .2 .1), g .3)
 
--- memory of the right length made fresh
-pub made-fresh : (b : List ℕ) → length b ≡ formLength → makeFresh b .memory ≡ ahead fresh
-made-fresh b h = ap (λ (o : Outcome). o .memory) (makeFresh-forms b h) ∙ sym (ap ahead fresh-spelt)
+-- memory of the right length made fresh in the profile of Release 18
+pub made-fresh : (b : List ℕ) → length b ≡ formLength → makeFresh b release18 .memory ≡ ahead release18 fresh
+made-fresh b h = ap (λ (o : Outcome). o .memory) (makeFresh-forms b release18 h (inl refl)) ∙ sym (ap (ahead release18) fresh-spelt)

@@ -9,6 +9,7 @@ ghost use mathlib.Core.Path.{_≡_};
 ghost use lib.ListN.{length};
 ghost use Rattle.meaning.specs.Octets.{splice};
 ghost use Rattle.meaning.specs.Memory.{fresh};
+ghost use Rattle.meaning.specs.Profile.{release18};
 ghost use Rattle.meaning.specs.FormB.{ahead};
 ghost use Rattle.stdio.specs.Taking.{Batched};
 ghost use Rattle.script.specs.Takes.{Lends, Ready};
@@ -144,12 +145,12 @@ fn run(memory: &mut [u8], block: &mut [u8], room: &mut [u8], out: &mut [u8])
     }
 }
 
-// What is lent at first: fresh memory, in form B.
+// What is lent at first: fresh memory of Release 18, in form B.
 fn start(memory: &mut [u8])
     requires { ⌜ length (now memory) ≡ 2200 ⌝ }
-    ensures { λ _. ⌜ now (memory .exit) ≡ splice (now (memory .entry)) 0 (ahead fresh) ⌝ }
+    ensures { λ _. ⌜ now (memory .exit) ≡ splice (now (memory .entry)) 0 (ahead release18 fresh) ⌝ }
 {
-    endpoint::make_fresh(&mut memory[..endpoint::MEMORY_LENGTH]);
+    endpoint::make_fresh(&mut memory[..endpoint::MEMORY_LENGTH], endpoint::RELEASE_18);
 }
 
 fn main() {

@@ -9,24 +9,24 @@ use mathlib.Core.List.{List, [], _∷_}
 use lib.ListN.{length, drop, List·getD-eq-default}
 use lib.Dec.{eqb, leb}
 use borrow.Author.Tests.{leb-true, eqb-true, eq-eqb}
-use Rattle.meaning.specs.Octets.{at16}
+use Rattle.meaning.specs.Octets.{octet, at16}
 use Rattle.meaning.specs.Delay.{delay}
 use Rattle.meaning.specs.Calls.{Outcome}
 use Rattle.meaning.specs.FormB.{makeFresh, message, localValue, build, expiry, gates}
 use Rattle.meaning.proofs.Refused.{RoomAfter}
-use Rattle.meaning.proofs.Sendings.{refresh, takeMessage, takeValue, buildIn, takeExpiry}
-use Rattle.meaning.proofs.Formed.{givesLent, roomOf, lent-room, lent-position}
+use Rattle.meaning.proofs.Sendings.{takeMessage, takeValue, buildIn, takeExpiry}
+use Rattle.meaning.proofs.Formed.{givesLent, roomOf, lent-room, lent-position, fresh-room, fresh-nowhere}
 use Rattle.endpoint.specs.Outcomes.{Gives}
 use Rattle.endpoint.specs.declared.Outcome as answers
 use Rattle.text.specs.Lines.{octetsLine, lentLine}
-use Rattle.script.specs.Instructions.{bodyRight, anew, nanoseconds, instant, gatesLine, printed, callOf, roomFor, alone, called, answered, movedBy, effect}
+use Rattle.script.specs.Instructions.{bodyRight, anew, nanoseconds, instant, gatesLine, printed, callOf, roomFor, profileAsked, alone, called, answered, movedBy, effect}
 
 -- ---- bodies
 
 unknown : (code n : ℕ) → 13 ≤ code → bodyRight code n ≡ false
 unfolding bodyRight
 unknown code n h =
-    let tests : List Bool = eqb n 0 ∷ leb 2 n ∷ leb 2 n ∷ eqb n 2 ∷ eqb n 0 ∷ leb n 2200 ∷ eqb n 0 ∷ eqb n 0 ∷ eqb n 8 ∷ leb 2 n ∷ eqb n 8 ∷ eqb n 2 ∷ eqb n 2 ∷ [] in
+    let tests : List Bool = leb n 1 ∷ leb 2 n ∷ leb 2 n ∷ eqb n 2 ∷ eqb n 0 ∷ leb n 2200 ∷ eqb n 0 ∷ eqb n 0 ∷ eqb n 8 ∷ leb 2 n ∷ eqb n 8 ∷ eqb n 2 ∷ eqb n 2 ∷ [] in
     List·getD-eq-default tests false h
 
 beyond : (k code : ℕ) → k ≤ code → (code ≡ k → ⊥) → k + 1 ≤ code
@@ -50,6 +50,20 @@ other code n r =
     let h12 = beyond 11 code h11 (r .0 .1) in
     let h13 = beyond 12 code h12 (r .1) in
     unknown code n h13
+
+-- ---- the profile that memory is made fresh in
+
+pub none-asked : (body : List ℕ) → length body ≡ 0 → profileAsked body ≡ 2
+unfolding profileAsked
+none-asked [] h = refl
+none-asked (q ∷ rest) h = absurd (omega (arith, h))
+
+pub one-asked : (body : List ℕ) → 1 ≤ length body → profileAsked body ≡ octet body 0
+unfolding profileAsked
+one-asked [] h = absurd (omega (arith, h))
+one-asked (q ∷ rest) h = refl
+
+-- ---- what the length of a body says
 
 module _ {code n : ℕ} (r : bodyRight code n ≡ true) where
   pub message-body : code ≡ 1 → 2 ≤ n
@@ -190,7 +204,7 @@ room-last (suc (suc (suc zero))) body room f = absurd (f (inr refl))
 room-last (suc (suc (suc (suc n)))) body room f = refl
 
 module _ {code : ℕ} (body m room : List ℕ) where
-  pub fresh-called : code ≡ 0 → called code body m room ≡ alone (makeFresh m) room
+  pub fresh-called : code ≡ 0 → called code body m room ≡ alone (makeFresh m (profileAsked body)) room
   unfolding called
   fresh-called e = rw e
 
@@ -221,7 +235,7 @@ alone-room o room a = at (o .written) (a .inRoom)
 
 pub called-room : (code : ℕ) (body m room : List ℕ) → RoomAfter (called code body m room) room
 unfolding called givesLent roomOf
-called-room zero body m room = alone-room (makeFresh m) room (lent-room m refresh)
+called-room zero body m room = alone-room (makeFresh m (profileAsked body)) room (fresh-room m (profileAsked body))
 called-room (suc zero) body m room = lent-room m (takeMessage (drop 2 body) room)
 called-room (suc (suc zero)) body m room = alone-room (localValue m (at16 body 0) (drop 2 body)) room (lent-room m (takeValue (at16 body 0) (drop 2 body)))
 called-room (suc (suc (suc zero))) body m room = lent-room m (buildIn room)
@@ -233,7 +247,7 @@ alone-gives o room g = record { number = g .number; written = g .written; positi
 -- no position that a call tells has more than four digits
 pub called-position : (code : ℕ) (body m room : List ℕ) → called code body m room .position < 10000
 unfolding called givesLent
-called-position zero body m room = omega (arith, lent-position m refresh)
+called-position zero body m room = omega (arith, fresh-nowhere m (profileAsked body))
 called-position (suc zero) body m room = omega (arith, lent-position m (takeMessage (drop 2 body) room))
 called-position (suc (suc zero)) body m room = omega (arith, lent-position m (takeValue (at16 body 0) (drop 2 body)))
 called-position (suc (suc (suc zero))) body m room = omega (arith, lent-position m (buildIn room))

@@ -15,7 +15,7 @@ use Rattle.meaning.proofs.Moved.{forward-leaves, back-leaves, forward-room, bac
 use Rattle.octets.specs.Writing.{Wrote}
 use Rattle.moves.specs.Moved.{numberOf, lengthOf, Gives}
 use Rattle.moves.specs.declared.Moved.{Moved}
-use Rattle.moves.specs.declared.Moved.the-variants.{Done, MemoryUnsound, RoomNotExact, InFlight}
+use Rattle.moves.specs.declared.Moved.the-variants.{Done, MemoryUnsound, RoomNotExact, NotRelease18, InFlight}
 use Rattle.text.specs.Lines.{line}
 use Rattle.text.proofs.Writes.{line-short}
 use Rattle.answers.specs.Answers.{lineOf}
@@ -26,6 +26,7 @@ unfolding numberOf
 number-short (Done n) = omega arith
 number-short MemoryUnsound = omega arith
 number-short RoomNotExact = omega arith
+number-short NotRelease18 = omega arith
 number-short InFlight = omega arith
 
 -- what holds of both moves holds of the one that a code makes

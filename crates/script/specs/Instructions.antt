@@ -7,6 +7,7 @@ use lib.Dec.{eqb, leb, ltb}
 use lib.IntN.{ℤ, pos, negsuc}
 use Rattle.meaning.specs.Octets.{at16, at32}
 use Rattle.meaning.specs.Delay.{delay}
+use Rattle.meaning.specs.Profile.{release18}
 use Rattle.meaning.specs.Calls.{Outcome}
 use Rattle.meaning.specs.Gates.{Gates, refused, notStarted, opens}
 use Rattle.meaning.specs.FormB.{makeFresh, message, localValue, build, expiry, gates}
@@ -18,7 +19,7 @@ use Rattle.answers.specs.Answers.{lineOf, fullOf}
 unfoldable pub bodyRight : ℕ → ℕ → Bool
 bodyRight code n =
     getD
-    (eqb n 0  -- 00 make the lent memory fresh
+    (leb n 1  -- 00 make the lent memory fresh: a profile (1), or none
     ∷ leb 2 n  -- 01 message: room length (2), message
     ∷ leb 2 n  -- 02 local value: name (2), value
     ∷ eqb n 2  -- 03 build a notification: room length (2)
@@ -77,6 +78,11 @@ roomFor code body room =
     let made = anew (at16 body 0) in
     getD (room ∷ made ∷ room ∷ made ∷ []) code room
 
+-- the profile that memory is made fresh in: that of Release 18 where none is named (RULES 17.2)
+unfoldable pub profileAsked : List ℕ → ℕ
+profileAsked [] = release18
+profileAsked (q ∷ rest) = q
+
 -- a call that is lent no room leaves it as it is
 abbrev pub alone : Outcome → List ℕ → Outcome
 alone o room = record { number = o .number; position = o .position; written = o .written; memory = o .memory; room = room }
@@ -86,7 +92,7 @@ unfoldable pub called : ℕ → List ℕ → List ℕ → List ℕ → Outcome
 called code body m room =
     let sent = drop 2 body in
     getD
-    (alone (makeFresh m) room
+    (alone (makeFresh m (profileAsked body)) room
     ∷ message m sent room
     ∷ alone (localValue m (at16 body 0) sent) room
     ∷ build m room

@@ -11,7 +11,7 @@ ghost use Rattle.endpoint.specs.Outcomes.{lengthOf, positionOf, Gives};
 ghost use Rattle.gates.specs.Answers.{answerOf};
 ghost use Rattle.moves.specs.Moved as moved;
 ghost use Rattle.text.specs.Lines.{octetsLine, line};
-ghost use Rattle.script.specs.Instructions.{bodyRight, roomLength, anew, roomFor, callOf, called, nanoseconds, instant, gatesLine, movedBy};
+ghost use Rattle.script.specs.Instructions.{bodyRight, roomLength, anew, roomFor, profileAsked, callOf, called, nanoseconds, instant, gatesLine, movedBy};
 ghost use Rattle.script.specs.Takes.{toldAnswer, Ready, Takes};
 use gates::Gates;
 use moves::Moved;
@@ -50,7 +50,7 @@ fn body_right(code: u8, n: usize) -> bool
     ensures { λ r. ⌜ r ≡ bodyRight code n ⌝ }
 {
     match code {
-        0 => n == 0,
+        0 => n <= 1,
         1 => 2 <= n,
         2 => 2 <= n,
         3 => n == 2,
@@ -112,13 +112,23 @@ fn call_of(code: u8) -> u8
     code
 }
 
+// The profile in which an instruction has memory made fresh: that of Release 18 where it names none.
+fn profile_asked(body: &[u8]) -> u8
+    ensures { λ r. ⌜ r ≡ profileAsked (now (body .entry)) ⌝ }
+{
+    if body.len() == 0 {
+        return endpoint::RELEASE_18;
+    }
+    body[0]
+}
+
 // The calls over memory, by their instructions' codes.
 fn call(memory: &mut [u8], room: &mut [u8], code: u8, body: &[u8]) -> endpoint::Outcome
     requires { ⌜ (bodyRight code (length (now body)) ≡ true) × (code < 5) ⌝ }
     ensures { λ r. ⌜ Gives (called code (now (body .entry)) (now (memory .entry)) (now (room .entry))) r (now (memory .exit)) (now (room .exit)) ⌝ }
 {
     match code {
-        0 => endpoint::make_fresh(memory),
+        0 => endpoint::make_fresh(memory, profile_asked(body)),
         1 => endpoint::message(memory, &body[2..], room),
         2 => endpoint::local_value(memory, octets::get16(body, 0), &body[2..]),
         3 => endpoint::build(memory, room),

@@ -46,25 +46,25 @@ setName (selectiveUnsubscribe n v) = 0
 setName (deleteEntry n v) = 0
 
 -- no other operation than a set of 8001 changes the running block
-knows-step : (m : List ℕ) (o : operation.Op) (k : RunningSums) → sound m ≡ true → setName o ≢ 0x8001 → Knows m k → Knows (step m o) k
-knows-step m o k s ne h =
-    ⊎-elim (λ r. knows-same m (step m o) k (r .block) h) (λ r. absurd (ne (ap setName (r .1)))) (step-running m o s)
+knows-step : (p : ℕ) (m : List ℕ) (o : operation.Op) (k : RunningSums) → sound m ≡ true → setName o ≢ 0x8001 → Knows m k → Knows (step p m o) k
+knows-step p m o k s ne h =
+    ⊎-elim (λ r. knows-same m (step p m o) k (r .block) h) (λ r. absurd (ne (ap setName (r .1)))) (step-running p m o s)
 
-pub kept-knows : (m s : List ℕ) (o : Op) (k : RunningSums) → sound m ≡ true → Knows m k → Knows (step m (opOf s o)) (keptAfter o k)
+pub kept-knows : (p : ℕ) (m s : List ℕ) (o : Op) (k : RunningSums) → sound m ≡ true → Knows m k → Knows (step p m (opOf s o)) (keptAfter o k)
 unfolding opOf keptAfter
-kept-knows m s Capabilities k d h = knows-step m capabilities k d (λ e. omega (arith, e)) h
-kept-knows m s (Read n) k d h = knows-step m (read n) k d (λ e. omega (arith, e)) h
-kept-knows m s (Set n f z) k d h = go (eqb n 0x8001) refl
+kept-knows p m s Capabilities k d h = knows-step p m capabilities k d (λ e. omega (arith, e)) h
+kept-knows p m s (Read n) k d h = knows-step p m (read n) k d (λ e. omega (arith, e)) h
+kept-knows p m s (Set n f z) k d h = go (eqb n 0x8001) refl
   where
-    go : (b : Bool) → eqb n 0x8001 ≡ b → Knows (step m (set n (part s f z))) (cond b Unknown k)
+    go : (b : Bool) → eqb n 0x8001 ≡ b → Knows (step p m (set n (part s f z))) (cond b Unknown k)
     go true e = tt
-    go false e = knows-step m (set n (part s f z)) k d (eqb-false n 0x8001 e) h
-kept-knows m s (Subscribe n) k d h = knows-step m (subscribe n) k d (λ e. omega (arith, e)) h
-kept-knows m s (Unsubscribe n) k d h = knows-step m (unsubscribe n) k d (λ e. omega (arith, e)) h
-kept-knows m s (SelectiveRead n f z) k d h = knows-step m (selectiveRead n (part s f z)) k d (λ e. omega (arith, e)) h
-kept-knows m s (SelectiveSubscribe n f z) k d h = knows-step m (selectiveSubscribe n (part s f z)) k d (λ e. omega (arith, e)) h
-kept-knows m s (SelectiveUnsubscribe n f z) k d h = knows-step m (selectiveUnsubscribe n (part s f z)) k d (λ e. omega (arith, e)) h
-kept-knows m s (DeleteEntry n f z) k d h = knows-step m (deleteEntry n (part s f z)) k d (λ e. omega (arith, e)) h
+    go false e = knows-step p m (set n (part s f z)) k d (eqb-false n 0x8001 e) h
+kept-knows p m s (Subscribe n) k d h = knows-step p m (subscribe n) k d (λ e. omega (arith, e)) h
+kept-knows p m s (Unsubscribe n) k d h = knows-step p m (unsubscribe n) k d (λ e. omega (arith, e)) h
+kept-knows p m s (SelectiveRead n f z) k d h = knows-step p m (selectiveRead n (part s f z)) k d (λ e. omega (arith, e)) h
+kept-knows p m s (SelectiveSubscribe n f z) k d h = knows-step p m (selectiveSubscribe n (part s f z)) k d (λ e. omega (arith, e)) h
+kept-knows p m s (SelectiveUnsubscribe n f z) k d h = knows-step p m (selectiveUnsubscribe n (part s f z)) k d (λ e. omega (arith, e)) h
+kept-knows p m s (DeleteEntry n f z) k d h = knows-step p m (deleteEntry n (part s f z)) k d (λ e. omega (arith, e)) h
 
 pub learnt-knows : (m : List ℕ) (a : Answer) (k : RunningSums) → Knows m k → Knows m (learntFrom m a k)
 unfolding learntFrom

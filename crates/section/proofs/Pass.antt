@@ -40,56 +40,56 @@ section-joined Updates r s = flat-append shortOctets (r .updates) (s .updates)
 section-joined UpdateErrors r s = flat-append failedOctets (r .updateErrors) (s .updateErrors)
 section-joined LongUpdates r s = flat-append heldOctets (r .longUpdates) (s .longUpdates)
 
-section-none : (k : Kind) (m : List ℕ) → section k (records m []) ≡ []
+section-none : (p : ℕ) (k : Kind) (m : List ℕ) → section k (records p m []) ≡ []
 unfolding section records gathered answers flat
-section-none Values m = refl
-section-none ReadErrors m = refl
-section-none Updates m = refl
-section-none UpdateErrors m = refl
-section-none LongUpdates m = refl
+section-none p Values m = refl
+section-none p ReadErrors m = refl
+section-none p Updates m = refl
+section-none p UpdateErrors m = refl
+section-none p LongUpdates m = refl
 
 -- the octets of each kind, from a position of the list on
-abbrev left : List ℕ → List ℕ → ℕ → Kind → List ℕ
-left m list from k = section k (records m (rest list from))
+abbrev left : (p : ℕ) → List ℕ → List ℕ → ℕ → Kind → List ℕ
+left p m list from k = section k (records p m (rest p list from))
 
 -- the memory as the turns so far leave it, the records to come, and what is known of the running sums
-pub record Passing (starts : Places) (m list out₀ copy out : List ℕ) (c : Places) (known : RunningSums) (from : ℕ) : Type 0 where
-  pub under : Under m list copy from
-  pub remains : Filling order (placeOf starts) (left m list 0) out₀ (placeOf c) (left copy list from) out
+pub record Passing (p : ℕ) (starts : Places) (m list out₀ copy out : List ℕ) (c : Places) (known : RunningSums) (from : ℕ) : Type 0 where
+  pub under : Under p m list copy from
+  pub remains : Filling order (placeOf starts) (left p m list 0) out₀ (placeOf c) (left p copy list from) out
   pub knows : Knows copy known
 
-pub passing-start : (starts : Places) (m list out copy : List ℕ) → sound m ≡ true → isSome (parse list) ≡ true → copy ≡ m
-    → Apart 0 order (placeOf starts) (left m list 0) (length out) → Passing starts m list out copy out starts Unknown 0
-passing-start starts m list out copy s w e h =
+pub passing-start : (p : ℕ) (starts : Places) (m list out copy : List ℕ) → sound m ≡ true → isSome (parse p list) ≡ true → copy ≡ m
+    → Apart 0 order (placeOf starts) (left p m list 0) (length out) → Passing p starts m list out copy out starts Unknown 0
+passing-start p starts m list out copy s w e h =
     record {
-      under = under-start m list copy s w e;
-      remains = rw e (filling-start order (placeOf starts) (left m list 0) out h);
+      under = under-start p m list copy s w e;
+      remains = rw e (filling-start order (placeOf starts) (left p m list 0) out h);
       knows = tt;
     }
 
-module _ (starts : Places) (m list out₀ copy out : List ℕ) (c : Places) (known : RunningSums) (from : ℕ) (u : Passing starts m list out₀ copy out c known from)
-    (h : Handed) (hands : HandsOut list from h) where
-  pub passing-end : OneOf (1 ∷ 2 ∷ []) (tagOf the-type h) → (copy ≡ after m (rest list 0)) × (out ≡ fill order (placeOf starts) (left m list 0) out₀)
+module _ (p : ℕ) (starts : Places) (m list out₀ copy out : List ℕ) (c : Places) (known : RunningSums) (from : ℕ) (u : Passing p starts m list out₀ copy out c known from)
+    (h : Handed) (hands : HandsOut p list from h) where
+  pub passing-end : OneOf (1 ∷ 2 ∷ []) (tagOf the-type h) → (copy ≡ after p m (rest p list 0)) × (out ≡ fill order (placeOf starts) (left p m list 0) out₀)
   passing-end t =
-      let e = under-end m list copy from (u .under) h hands t in
-      (e .1, filling-end (u .remains) (λ k. ap (λ (os : List _). section k (records copy os)) (e .0) ∙ section-none k copy) .written)
+      let e = under-end p m list copy from (u .under) h hands t in
+      (e .1, filling-end (u .remains) (λ k. ap (λ (os : List _). section k (records p copy os)) (e .0) ∙ section-none p k copy) .written)
 
-  module _ (o : Op) (next : ℕ) (e : h ≡ Operation o next) (copy′ : List ℕ) (a : Answer) (q : copy′ ≡ step copy (opOf list o)) (b : a ≡ told (answer copy (opOf list o))) where
+  module _ (o : Op) (next : ℕ) (e : h ≡ Operation o next) (copy′ : List ℕ) (a : Answer) (q : copy′ ≡ step p copy (opOf list o)) (b : a ≡ told (answer p copy (opOf list o))) where
     -- the record of this turn, and those to come
-    turned : (k : Kind) → left copy list from k ≡ shares copy′ list o a k ++ left copy′ list next k
+    turned : (k : Kind) → left p copy list from k ≡ shares p copy′ list o a k ++ left p copy′ list next k
     unfolding records gathered answers
     turned k =
-        rw (under-rest m list copy from (u .under) h hands o next e, told-back copy list o copy′ a q b .0, q)
-        (section-joined k (recordOf (answer copy (opOf list o))) (gathered (answers (step copy (opOf list o)) (rest list next))))
+        rw (under-rest p m list copy from (u .under) h hands o next e, told-back p copy list o copy′ a q b .0, q)
+        (section-joined k (recordOf (answer p copy (opOf list o))) (gathered (answers p (step p copy (opOf list o)) (rest p list next))))
 
-    pub turn-fits : Apart 0 order (placeOf c) (shares copy′ list o a) (length out)
-    turn-fits = filling-fits (u .remains) (shares copy′ list o a) (left copy′ list next) turned
+    pub turn-fits : Apart 0 order (placeOf c) (shares p copy′ list o a) (length out)
+    turn-fits = filling-fits (u .remains) (shares p copy′ list o a) (left p copy′ list next) turned
 
     pub passing-turn : (c′ : Places) (known′ : RunningSums) (out′ : List ℕ) → Knows copy′ known′
-        → Filled order (placeOf c) (shares copy′ list o a) out (placeOf c′) out′ → Passing starts m list out₀ copy′ out′ c′ known′ next
+        → Filled order (placeOf c) (shares p copy′ list o a) out (placeOf c′) out′ → Passing p starts m list out₀ copy′ out′ c′ known′ next
     passing-turn c′ known′ out′ n w =
         record {
-          under = under-turn m list copy from (u .under) h hands o next e copy′ q;
-          remains = filling-step (u .remains) (shares copy′ list o a) (left copy′ list next) turned w;
+          under = under-turn p m list copy from (u .under) h hands o next e copy′ q;
+          remains = filling-step (u .remains) (shares p copy′ list o a) (left p copy′ list next) turned w;
           knows = n;
         }

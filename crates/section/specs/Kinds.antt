@@ -26,9 +26,9 @@ section UpdateErrors r = flat failedOctets (r .updateErrors)
 section LongUpdates r = flat heldOctets (r .longUpdates)
 
 -- the records of a list of operations, carried out on m
-abbrev pub recordsOf : List ℕ → List ℕ → Records
-recordsOf m list = records m (orNone (parse list))
+abbrev pub recordsOf : (p : ℕ) → List ℕ → List ℕ → Records
+recordsOf p m list = records p m (orNone (parse p list))
 
 -- the octets of each kind that they come to
-abbrev pub sections : List ℕ → List ℕ → Kind → List ℕ
-sections m list k = section k (recordsOf m list)
+abbrev pub sections : (p : ℕ) → List ℕ → List ℕ → Kind → List ℕ
+sections p m list k = section k (recordsOf p m list)

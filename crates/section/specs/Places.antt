@@ -16,5 +16,5 @@ placeOf c UpdateErrors = c .«update_errors»
 placeOf c LongUpdates = c .«long_updates»
 
 -- the record of an answer to an operation, for each kind: there are octets for one kind at most
-abbrev pub shares : List ℕ → List ℕ → Op → Answer → Kind → List ℕ
-shares m s o a k = section k (recordOf (answerOf m s o a))
+abbrev pub shares : (p : ℕ) → List ℕ → List ℕ → Op → Answer → Kind → List ℕ
+shares p m s o a k = section k (recordOf (answerOf p m s o a))

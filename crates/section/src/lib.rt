@@ -89,12 +89,13 @@ fn write_value(
     known: RunningSums,
     out: &mut [u8],
     at: usize,
+    profile: u8,
 ) -> usize
-    requires { ⌜ (length (now m) ≡ memoryLength) × (k < entryCount) × (name < 65536) × Knows (now m) known × (at + length (heldOctets (record { name = name; value = shown (now m) k })) ≤ length (now out)) ⌝ }
-    ensures { λ r. ⌜ Wrote (now (out .entry)) at (heldOctets (record { name = name; value = shown (now (m .entry)) k })) r (now (out .exit)) ⌝ }
+    requires { ⌜ (length (now m) ≡ memoryLength) × (k < entryCount) × (name < 65536) × Knows (now m) known × (at + length (heldOctets (record { name = name; value = shown profile (now m) k })) ≤ length (now out)) ⌝ }
+    ensures { λ r. ⌜ Wrote (now (out .entry)) at (heldOctets (record { name = name; value = shown profile (now (m .entry)) k })) r (now (out .exit)) ⌝ }
 {
     if k != table::COMMIT {
-        let v = memory::body(m, k);
+        let v = memory::sent_body(m, k, profile);
         return records::write_held(out, at, name, v);
     }
     let s = running_sums(m, known);
@@ -113,9 +114,10 @@ fn put(
     known: RunningSums,
     c: Places,
     out: &mut [u8],
+    profile: u8,
 ) -> Places
-    requires { ⌜ (length (now m) ≡ memoryLength) × (length (now list) ≤ messageMost) × Inside (length (now list)) op × InTable a × Knows (now m) known × Apart 0 order (placeOf c) (shares (now m) (now list) op a) (length (now out)) ⌝ }
-    ensures { λ r. ⌜ Filled order (placeOf c) (shares (now (m .entry)) (now (list .entry)) op a) (now (out .entry)) (placeOf r) (now (out .exit)) ⌝ }
+    requires { ⌜ (length (now m) ≡ memoryLength) × (length (now list) ≤ messageMost) × Inside (length (now list)) op × InTable a × Knows (now m) known × Apart 0 order (placeOf c) (shares profile (now m) (now list) op a) (length (now out)) ⌝ }
+    ensures { λ r. ⌜ Filled order (placeOf c) (shares profile (now (m .entry)) (now (list .entry)) op a) (now (out .entry)) (placeOf r) (now (out .exit)) ⌝ }
 {
     let name = operation::name_of(op);
     let from = operation::from_of(op);
@@ -124,7 +126,7 @@ fn put(
     match a {
         Answer::Names => r,
         Answer::Value(k) => {
-            r.values = write_value(m, k as usize, name, known, out, c.values);
+            r.values = write_value(m, k as usize, name, known, out, c.values, profile);
             r
         }
         Answer::ReadError(cause) => {
@@ -150,22 +152,22 @@ fn put(
 
 // The records of all operations, each at the place of its kind. The copy is lent as the memory is, and holds afterwards what
 // the operations leave.
-pub fn write(list: &[u8], starts: Places, copy: &mut [u8], out: &mut [u8])
-    requires { ⌜ (sound (now copy) ≡ true) × (isSome (parse (now list)) ≡ true) × (length (now list) ≤ messageMost) × Apart 0 order (placeOf starts) (sections (now copy) (now list)) (length (now out)) ⌝ }
-    ensures { λ _. ⌜ now (copy .exit) ≡ after (now (copy .entry)) (orNone (parse (now (list .entry)))) ⌝ }
-    ensures { λ _. ⌜ now (out .exit) ≡ fill order (placeOf starts) (sections (now (copy .entry)) (now (list .entry))) (now (out .entry)) ⌝ }
+pub fn write(list: &[u8], starts: Places, copy: &mut [u8], out: &mut [u8], profile: u8)
+    requires { ⌜ (sound (now copy) ≡ true) × (isSome (parse profile (now list)) ≡ true) × (length (now list) ≤ messageMost) × Apart 0 order (placeOf starts) (sections profile (now copy) (now list)) (length (now out)) ⌝ }
+    ensures { λ _. ⌜ now (copy .exit) ≡ after profile (now (copy .entry)) (orNone (parse profile (now (list .entry)))) ⌝ }
+    ensures { λ _. ⌜ now (out .exit) ≡ fill order (placeOf starts) (sections profile (now (copy .entry)) (now (list .entry))) (now (out .entry)) ⌝ }
 {
     let mut c = starts;
     let mut known = RunningSums::Unknown;
     let mut from: usize = 0;
     loop {
-        let h = operation::hand_out(list, from);
+        let h = operation::hand_out(list, from, profile);
         let Handed::Operation(op, next) = h else {
             return;
         };
-        let a = command::carry_out(copy, list, op);
+        let a = command::carry_out(copy, list, op, profile);
         known = learnt(copy, a, kept(known, op));
-        c = put(copy, list, op, a, known, c, out);
+        c = put(copy, list, op, a, known, c, out, profile);
         from = next;
     }
 }

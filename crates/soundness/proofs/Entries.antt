@@ -1,4 +1,4 @@
--- The tests as the code makes them: an entry without its tail, all entries and their tails, the whole memory.
+-- The tests as the code makes them: an entry without its tail, all entries and their tails, the whole memory, the bounds of a profile.
 use Prim.Native.Nat.{ℕ, zero, suc, _+_, _-_, _/_, _%_, _≤_, _<_}
 use native.Mathlib.Omega.{arith}
 use native.Mathlib.Nat.{add-zero, add-suc, sub-zero}
@@ -11,9 +11,10 @@ use lib.Seq.{length-take-le}
 use lib.Dec.{eqb, leb, ltb}
 use borrow.Author.Tests.{eq-eqb, leb-true, le-leb, le-ltb}
 use Rattle.meaning.specs.Octets.{octet, at16, every, below, implies}
-use Rattle.meaning.specs.Table.{Row, rowAt, byPort, entryCount}
+use Rattle.meaning.specs.Table.{Row, rowAt, byPort, entryCount, adminControlList, supportedListMax, commit}
 use Rattle.meaning.specs.Block.{permits}
-use Rattle.meaning.specs.Memory.{cell, room, isPresent, isSubscribed, isPending, isInFlight, size, waiting, entrySound, entriesSound, sound}
+use Rattle.meaning.specs.Memory.{cell, room, isPresent, isSubscribed, isPending, isInFlight, size, subscribed, body, waiting, entrySound, entriesSound, sound}
+use Rattle.meaning.specs.Profile.{release16, isRelease16, bounded}
 use Rattle.meaning.proofs.Tests.{every-at, below-at}
 use Rattle.soundness.specs.Fields.{cellSound, fieldsSound, fieldsAt, tailAt, allFields, allTails, acrossSound}
 
@@ -115,3 +116,9 @@ sound-parts m h =
 pub fields-fit : (m : List ℕ) → allFields m ≡ true → (k : ℕ) → k < 19 → size (cell m k) ≤ rowAt k .most
 unfolding allFields fieldsAt fieldsSound
 fields-fit m e k h = leb-true _ _ (every-at _ 1 (below-at entryCount (fieldsAt m) e k h))
+
+-- the bounds of Release 16, tested of what was found in memory
+pub bounds-found : (p : ℕ) (m : List ℕ) {l b : List ℕ} {s : Bool} → p ≡ release16 → l ≡ body m adminControlList → b ≡ body m commit → s ≡ subscribed m supportedListMax
+    → (leb (length l) 252 && (leb (length b) 274 && not s)) ≡ bounded p m
+unfolding bounded isRelease16 implies every
+bounds-found p m e el eb es = rw (eq-eqb p release16 e, el, eb, es, and-true)

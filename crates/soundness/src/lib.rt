@@ -9,9 +9,18 @@ ghost use lib.Dec.{eqb};
 ghost use Rattle.meaning.specs.Table.{entryCount, memoryLength, rowAt, roomAt};
 ghost use Rattle.meaning.specs.Block.{permits};
 ghost use Rattle.meaning.specs.Memory.{flagLimit, cell, isPresent, size, timerSound, sound};
+ghost use Rattle.meaning.specs.Profile.{bounded};
 ghost use Rattle.meaning.specs.FormB.{soundFormB};
 ghost use Rattle.meaning.specs.Moves.{soundOld};
 ghost use Rattle.soundness.specs.Fields.{cellSound, fieldsAt, gapAt, allFields, allTails, acrossSound};
+
+// The most that memory of Release 16 holds: a list of as many entries, each of 7 octets, as stand in the 255 octets of a value of a set
+// there, and a running block, which has 22 octets besides its list.
+const ENTRIES_MOST: usize = 36;
+
+const LIST_MOST: usize = 7 * ENTRIES_MOST;
+
+const BLOCK_MOST: usize = 22 + LIST_MOST;
 
 // The first octet that the flags of a cell may not be. Pending and in flight, the two highest, are for names that the port sets, and
 // in flight stands only while waiting.
@@ -177,17 +186,37 @@ fn sound(m: &[u8]) -> bool
     all_tails(m) & across_sound(m)
 }
 
-// Whether they are sound in form B: the octet ahead, then sound memory (RULES 23.3).
+// What a profile asks besides: Release 18 nothing, Release 16 a list and a running block that it can hold (RULES 24.8), and no mark on
+// the name that it does not list (RULES 24.9).
+fn bounded(m: &[u8], profile: u8) -> bool
+    requires { ⌜ length (now m) ≡ memoryLength ⌝ }
+    ensures { λ r. ⌜ r ≡ bounded profile (now (m .entry)) ⌝ }
+{
+    if profile != wire::RELEASE_16 {
+        return true;
+    }
+    let list = memory::body(m, table::ADMIN_CONTROL_LIST);
+    let block = memory::body(m, table::COMMIT);
+    let marked = memory::subscribed(m, table::SUPPORTED_LIST_MAX);
+    (list.len() <= LIST_MOST) & ((block.len() <= BLOCK_MOST) & !marked)
+}
+
+// Whether they are sound in form B: a profile, then sound memory (RULES 23.3) within the bounds of that profile.
 pub fn sound_form_b(b: &[u8]) -> bool
     ensures { λ r. ⌜ r ≡ soundFormB (now (b .entry)) ⌝ }
 {
     if b.len() != table::FORM_LENGTH {
         return false;
     }
-    if b[table::FORM_AT] != table::FORM_B {
+    let profile = b[table::PROFILE_AT];
+    if !table::is_profile(profile) {
         return false;
     }
-    sound(&b[table::BEHIND_AT..])
+    let m = &b[table::BEHIND_AT..];
+    if !sound(m) {
+        return false;
+    }
+    bounded(m, profile)
 }
 
 // Whether they are sound in the old form, which has no flag in flight (RULES 23.6).

@@ -1,9 +1,11 @@
-// The table of parameters: the 19 rows in table order (RULES 3.10), the place of a name, what a row permits.
+// The table of parameters: the 19 rows in table order (RULES 3.10), the place of a name, what a row permits, and what a profile
+// makes of it.
 // Every answer is that of a definition of `meaning`.
 ghost use Prim.Native.Nat.{_+_, _≤_};
 ghost use mathlib.Core.Path.{_≡_};
 ghost use Rattle.meaning.specs.Table.{memoryLength, row, rowAt, roomAt, place, byController, byPort};
 ghost use Rattle.meaning.specs.Block.{permits};
+ghost use Rattle.meaning.specs.Profile.{isProfile, lists, spared, causeAbsent};
 ghost use Rattle.schedule.specs.Rules.{ruleOf};
 ghost use Rattle.table.specs.Rows.{rowOf, ownerOf};
 use schedule::Rule;
@@ -21,10 +23,8 @@ pub const BODIES_AT: usize = 116;
 
 pub const MEMORY_LENGTH: usize = 2100;
 
-// Form B, in which memory is kept and lent: the octet ahead, where the memory behind it starts, and the octets in all.
-pub const FORM_B: u8 = 2;
-
-pub const FORM_AT: usize = 0;
+// Form B, in which memory is kept and lent: where its profile stands, where the memory behind it starts, and the octets in all.
+pub const PROFILE_AT: usize = 0;
 
 pub const BEHIND_AT: usize = 1;
 
@@ -81,8 +81,10 @@ pub const MAX_AT: usize = 599;
 
 pub const RUNNING_AT: usize = 1630;
 
-// Octets of a cycle.
+// Octets of a cycle, and of those of a list's length that Release 16 has not on the wire.
 pub const CYCLE_LENGTH: usize = 8;
+
+const COUNT_SPARED: usize = 2;
 
 // Who sets a parameter.
 pub enum Owner {
@@ -215,4 +217,42 @@ pub fn permits(k: usize, v: &[u8]) -> bool
     }
     let rule = row.rule;
     schedule::keeps(rule, v)
+}
+
+// ---- what a profile makes of it (RULES 24)
+
+// Whether there is such a profile.
+pub fn is_profile(profile: u8) -> bool
+    ensures { λ r. ⌜ r ≡ isProfile profile ⌝ }
+{
+    (profile == wire::RELEASE_18) | (profile == wire::RELEASE_16)
+}
+
+// Whether the name at a place is one that the profile lists; past the table's end none is.
+pub fn lists(profile: u8, k: usize) -> bool
+    ensures { λ r. ⌜ r ≡ lists profile k ⌝ }
+{
+    (k < ENTRY_COUNT) & !((profile == wire::RELEASE_16) & (k == SUPPORTED_LIST_MAX))
+}
+
+// Octets at the front of the value at a place that memory has and the wire has not.
+pub fn spared(profile: u8, k: usize) -> usize
+    ensures { λ r. ⌜ (r ≡ spared profile k) × (r ≤ 2) ⌝ }
+{
+    if (profile == wire::RELEASE_16) & (k == ADMIN_CONTROL_LIST_LENGTH) {
+        COUNT_SPARED
+    } else {
+        0
+    }
+}
+
+// The cause of an absent value.
+pub fn absent_cause(profile: u8) -> u8
+    ensures { λ r. ⌜ r ≡ causeAbsent profile ⌝ }
+{
+    if profile == wire::RELEASE_16 {
+        wire::CAUSE_PROTOCOL_ERROR
+    } else {
+        wire::CAUSE_UNAVAILABLE
+    }
 }

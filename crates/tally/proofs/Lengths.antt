@@ -9,12 +9,13 @@ use lib.ListN.{length}
 use lib.Dec.{eqb}
 use borrow.Author.Tests.{ne-eqb}
 use Rattle.meaning.specs.Octets.{be16, flat, nonempty, every}
+use Rattle.meaning.specs.Profile.{namesLength}
 use Rattle.meaning.specs.Operation.{Op}
 use Rattle.meaning.specs.Reply.{Held, Failed, Records, heldOctets, readContents, setContents, allNames, element, complete, countsFit}
 use Rattle.meaning.specs.Reply as reply
 use Rattle.meaning.specs.Calls.{records, carriedOut, fits}
 use Rattle.meaning.proofs.Records.{read-length, set-length, complete-length}
-use Rattle.records.proofs.Lengths.{names-length}
+use Rattle.meaning.proofs.Contents.{names-length}
 use Rattle.tally.specs.Tallies.{grown, plus, tallyOf, readOctets, longOctets, setOctets, anyRead, anySet, elementLength, replyLength, tallyFits}
 
 some-counted : (n : ℕ) → 1 ≤ n → eqb n 0 ≡ false
@@ -26,9 +27,9 @@ element-length id true c = omega arith
 element-length id false c = refl
 
 module _ (r : Records) where
-  names-element : elementLength (tallyOf r .capabilities) 38 ≡ length (element 0x70 (r .capabilities) allNames)
+  names-element : (p : ℕ) → elementLength (tallyOf r .capabilities) (namesLength p) ≡ length (element 0x70 (r .capabilities) (allNames p))
   unfolding tallyOf plus
-  names-element = rw (sym names-length) (element-length 0x70 (r .capabilities) allNames)
+  names-element p = rw (sym (names-length p)) (element-length 0x70 (r .capabilities) (allNames p))
 
   pub read-octets : readOctets (tallyOf r) ≡ length (readContents r)
   unfolding readOctets tallyOf plus grown
@@ -66,17 +67,19 @@ module _ (r : Records) where
       go [] (x ∷ f) l = rw (some-counted (0 + length (x ∷ f) + length l) (omega arith))
       go (h ∷ u) f l = rw (some-counted (length (h ∷ u) + length f + length l) (omega arith))
 
-  pub reply-length : replyLength (tallyOf r) ≡ length (complete r)
+  pub reply-length : (p : ℕ) → replyLength p (tallyOf r) ≡ length (complete p r)
   unfolding replyLength
-  reply-length =
-      rw (any-read, any-set, read-octets, set-octets, complete-length r)
-      (ap₂ _+_ (ap₂ (λ (a b : ℕ). 1 + a + b) names-element (element-length 0x71 (reply.anyRead r) (readContents r))) (element-length 0x72 (reply.anySet r) (setContents r)))
+  reply-length p =
+      rw (any-read, any-set, read-octets, set-octets, complete-length p r)
+      (ap₂ _+_ (ap₂ (λ (a b : ℕ). 1 + a + b) (names-element p) (element-length 0x71 (reply.anyRead r) (readContents r))) (element-length 0x72 (reply.anySet r) (setContents r)))
 
 -- ---- number 7
 
-pub tally-fits : (n : ℕ) (m : List ℕ) (os : List Op) → tallyFits n (tallyOf (records m os)) ≡ fits n (carriedOut m os)
+pub tally-fits : (p n : ℕ) (m : List ℕ) (os : List Op)
+    → let t = tallyOf (records p m os) in
+    tallyFits (replyLength p t) n t ≡ fits n (carriedOut p m os)
 unfolding tallyFits fits carriedOut countsFit every
-tally-fits n m os = rw (reply-length (records m os)) (unfold tallyOf plus grown in simp (zero-add, and-true))
+tally-fits p n m os = rw (reply-length (records p m os) p) (unfold tallyOf plus grown in simp (zero-add, and-true))
 
 -- ---- the counts
 

@@ -44,20 +44,20 @@ none-light : (0 ≤ 4096) × (0 ≤ 4096)
 none-light = (omega arith, omega arith)
 
 -- the record of one answer, where the list has at most 2,048 octets
-pub told-light : (m s : List ℕ) (o : Op) (a : Answer) → length s ≤ 2048 → Inside (length s) o → InTable a → Light (recordOf (answerOf m s o a))
+pub told-light : (p : ℕ) (m s : List ℕ) (o : Op) (a : Answer) → length s ≤ 2048 → Inside (length s) o → InTable a → Light (recordOf (answerOf p m s o a))
 unfolding answerOf recordOf flat
-told-light m s o Names h i t = record { values = none-light; readErrors = none-light; updates = none-light; updateErrors = none-light; longUpdates = none-light }
-told-light m s o (Value k) h i t =
+told-light p m s o Names h i t = record { values = none-light; readErrors = none-light; updates = none-light; updateErrors = none-light; longUpdates = none-light }
+told-light p m s o (Value k) h i t =
     record {
-      values = (omega arith, omega (arith, held-octets (nameOf o) (shown m k), shown-short m k t));
+      values = (omega arith, omega (arith, held-octets (nameOf o) (shown p m k), shown-short p m k t));
       readErrors = none-light;
       updates = none-light;
       updateErrors = none-light;
       longUpdates = none-light;
     }
-told-light m s o (ReadError c) h i t =
+told-light p m s o (ReadError c) h i t =
     record { values = none-light; readErrors = failed-light (nameOf o) c; updates = none-light; updateErrors = none-light; longUpdates = none-light }
-told-light m s o Update h i t = go (leb (length v) 255)
+told-light p m s o Update h i t = go (leb (length v) 255)
   where
     v : List ℕ
     v = part s (fromOf o) (sizeOf o)
@@ -70,30 +70,30 @@ told-light m s o Update h i t = go (leb (length v) 255)
         record { values = none-light; readErrors = none-light; updates = (omega arith, omega (arith, short-octets (nameOf o) v, l)); updateErrors = none-light; longUpdates = none-light }
     go false =
         record { values = none-light; readErrors = none-light; updates = none-light; updateErrors = none-light; longUpdates = (omega arith, omega (arith, held-octets (nameOf o) v, l)) }
-told-light m s o (UpdateError c) h i t =
+told-light p m s o (UpdateError c) h i t =
     record { values = none-light; readErrors = none-light; updates = none-light; updateErrors = failed-light (nameOf o) c; longUpdates = none-light }
-told-light m s o Silent h i t = record { values = none-light; readErrors = none-light; updates = none-light; updateErrors = none-light; longUpdates = none-light }
+told-light p m s o Silent h i t = record { values = none-light; readErrors = none-light; updates = none-light; updateErrors = none-light; longUpdates = none-light }
 
 -- ---- the loop
 
 -- the tally of what was answered so far, with that of the answers to come, is the whole one; whether memory changed, the same way
-pub record Counting (m list copy : List ℕ) (t : Tally) (changed : Bool) (at : ℕ) : Type 0 where
-  pub under : Under m list copy at
-  pub leads : plus t (records copy (rest list at)) ≡ tallyOf (records m (rest list 0))
-  pub flagged : (changed || anyChange (answers copy (rest list at))) ≡ anyChange (answers m (rest list 0))
+pub record Counting (p : ℕ) (m list copy : List ℕ) (t : Tally) (changed : Bool) (at : ℕ) : Type 0 where
+  pub under : Under p m list copy at
+  pub leads : plus t (records p copy (rest p list at)) ≡ tallyOf (records p m (rest p list 0))
+  pub flagged : (changed || anyChange (answers p copy (rest p list at))) ≡ anyChange (answers p m (rest p list 0))
   pub small : Below (4096 * at) t
 
-pub counting-start : (m list copy : List ℕ) → sound m ≡ true → isSome (parse list) ≡ true → copy ≡ m → Counting m list copy noTally false 0
+pub counting-start : (p : ℕ) (m list copy : List ℕ) → sound m ≡ true → isSome (parse p list) ≡ true → copy ≡ m → Counting p m list copy noTally false 0
 unfolding tallyOf
-counting-start m list copy s w e =
-    record { under = under-start m list copy s w e; leads = rw e; flagged = rw e; small = (none-small, none-small, none-small, none-small, none-small) }
+counting-start p m list copy s w e =
+    record { under = under-start p m list copy s w e; leads = rw e; flagged = rw e; small = (none-small, none-small, none-small, none-small, none-small) }
 
-module _ (m list copy : List ℕ) (t : Tally) (changed : Bool) (at : ℕ) (u : Counting m list copy t changed at) (h : Handed) (hands : HandsOut list at h) where
+module _ (p : ℕ) (m list copy : List ℕ) (t : Tally) (changed : Bool) (at : ℕ) (u : Counting p m list copy t changed at) (h : Handed) (hands : HandsOut p list at h) where
   pub counting-end : length list ≤ 2048 → OneOf (1 ∷ 2 ∷ []) (tagOf the-type h)
-      → (t ≡ tallyOf (records m (rest list 0))) × Below 16777216 t × (copy ≡ after m (rest list 0)) × (changed ≡ anyChange (answers m (rest list 0)))
+      → (t ≡ tallyOf (records p m (rest p list 0))) × Below 16777216 t × (copy ≡ after p m (rest p list 0)) × (changed ≡ anyChange (answers p m (rest p list 0)))
   unfolding records gathered answers anyChange
   counting-end long k =
-      let e = under-end m list copy at (u .under) h hands k in (
+      let e = under-end p m list copy at (u .under) h hands k in (
         silent-added t ∙ unfold recordOf in rw (e .0) at (u .leads),
         below-more (4096 * at) 16777216 t (omega (arith, u .under .inside, long)) (u .small),
         e .1,
@@ -101,21 +101,21 @@ module _ (m list copy : List ℕ) (t : Tally) (changed : Bool) (at : ℕ) (u : C
       )
 
   pub counting-turn : (o : Op) (next : ℕ) → h ≡ Operation o next → length list ≤ 2048 → (copy′ : List ℕ) (a : Answer) (t′ : Tally) (b : Bool)
-      → copy′ ≡ step copy (opOf list o) → a ≡ told (answer copy (opOf list o)) → t′ ≡ tallied copy′ t o a → b ≡ mayChange a
-      → Counting m list copy′ t′ (changed || b) next
+      → copy′ ≡ step p copy (opOf list o) → a ≡ told (answer p copy (opOf list o)) → t′ ≡ tallied p copy′ t o a → b ≡ mayChange a
+      → Counting p m list copy′ t′ (changed || b) next
   unfolding records gathered answers anyChange
-  counting-turn o next e long copy′ a t′ b q p adds tells =
-      let w = under-ahead m list copy at (u .under) h hands o next e in
-      let back = told-back copy list o copy′ a q p in
-      let x : t′ ≡ plus t (recordOf (answerOf copy′ list o a)) = adds ∙ tallied-is copy′ list t o a (inside-value (length list) o (w .2)) in
-      let y : b ≡ mayChange (told (answer copy (opOf list o))) = tells ∙ ap mayChange p in
-      let r = under-rest m list copy at (u .under) h hands o next e in
+  counting-turn o next e long copy′ a t′ b q f adds tells =
+      let w = under-ahead p m list copy at (u .under) h hands o next e in
+      let back = told-back p copy list o copy′ a q f in
+      let x : t′ ≡ plus t (recordOf (answerOf p copy′ list o a)) = adds ∙ tallied-is p copy′ list t o a (inside-value (length list) o (w .2)) in
+      let y : b ≡ mayChange (told (answer p copy (opOf list o))) = tells ∙ ap mayChange f in
+      let r = under-rest p m list copy at (u .under) h hands o next e in
       record {
-        under = under-turn m list copy at (u .under) h hands o next e copy′ q;
-        leads = rw (x, back .0, q) (sym (plus-joined t (recordOf (answer copy (opOf list o))) _) ∙ rw r at (u .leads));
-        flagged = rw (y, q) (or-assoc changed (mayChange (told (answer copy (opOf list o)))) _ ∙ rw r at (u .flagged));
+        under = under-turn p m list copy at (u .under) h hands o next e copy′ q;
+        leads = rw (x, back .0, q) (sym (plus-joined t (recordOf (answer p copy (opOf list o))) _) ∙ rw r at (u .leads));
+        flagged = rw (y, q) (or-assoc changed (mayChange (told (answer p copy (opOf list o)))) _ ∙ rw r at (u .flagged));
         small =
             rw x
-            (below-more (4096 * at + 4096) (4096 * next) (plus t (recordOf (answerOf copy′ list o a))) (omega (arith, w .0))
-            (plus-below (4096 * at) t _ (u .small) (told-light copy′ list o a long (w .2) (back .1))));
+            (below-more (4096 * at + 4096) (4096 * next) (plus t (recordOf (answerOf p copy′ list o a))) (omega (arith, w .0))
+            (plus-below (4096 * at) t _ (u .small) (told-light p copy′ list o a long (w .2) (back .1))));
       }

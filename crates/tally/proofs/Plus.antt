@@ -94,14 +94,14 @@ module _ (t : Tally) where
 pub zeros-part : (o : Op) → length (part (zeros (fromOf o + sizeOf o)) (fromOf o) (sizeOf o)) ≡ sizeOf o
 zeros-part o = length-part (zeros (fromOf o + sizeOf o)) (fromOf o) (sizeOf o) (omega (arith, length-replicate {A = ℕ} (fromOf o + sizeOf o) 0))
 
-pub tallied-is : (m s : List ℕ) (t : Tally) (o : Op) (a : Answer) → fromOf o + sizeOf o ≤ length s → tallied m t o a ≡ plus t (recordOf (answerOf m s o a))
+pub tallied-is : (p : ℕ) (m s : List ℕ) (t : Tally) (o : Op) (a : Answer) → fromOf o + sizeOf o ≤ length s → tallied p m t o a ≡ plus t (recordOf (answerOf p m s o a))
 unfolding tallied answerOf
-tallied-is m s t o Names h = refl
-tallied-is m s t o (Value k) h = refl
-tallied-is m s t o (ReadError c) h = refl
-tallied-is m s t o Update h = update-alike t (nameOf o) _ _ (zeros-part o ∙ sym (length-part s (fromOf o) (sizeOf o) h))
-tallied-is m s t o (UpdateError c) h = refl
-tallied-is m s t o Silent h = refl
+tallied-is p m s t o Names h = refl
+tallied-is p m s t o (Value k) h = refl
+tallied-is p m s t o (ReadError c) h = refl
+tallied-is p m s t o Update h = update-alike t (nameOf o) _ _ (zeros-part o ∙ sym (length-part s (fromOf o) (sizeOf o) h))
+tallied-is p m s t o (UpdateError c) h = refl
+tallied-is p m s t o Silent h = refl
 
 -- ---- records joined
 

@@ -5,7 +5,8 @@ use mathlib.Core.List.{List, [], _∷_}
 use lib.ListN.{length}
 use lib.Dec.{eqb, leb}
 use Rattle.meaning.specs.Octets.{zeros, flat, every}
-use Rattle.meaning.specs.Wire.{namesLength, replyMost, countMost}
+use Rattle.meaning.specs.Wire.{replyMost, countMost}
+use Rattle.meaning.specs.Profile.{namesLength}
 use Rattle.meaning.specs.Reply.{Records, recordOf, heldOctets, shortOctets, failedOctets}
 use Rattle.operation.specs.declared.Op.{Op}
 use Rattle.operation.specs.Handing.{fromOf, sizeOf}
@@ -40,8 +41,8 @@ unfoldable pub tallyOf : Records → Tally
 tallyOf r = plus noTally r
 
 -- a tally, and the record of an answer to an operation more. Of a set's value its length alone counts, so zeros stand for the list
-unfoldable pub tallied : List ℕ → Tally → Op → Answer → Tally
-tallied m t o a = plus t (recordOf (answerOf m (zeros (fromOf o + sizeOf o)) o a))
+unfoldable pub tallied : (p : ℕ) → List ℕ → Tally → Op → Answer → Tally
+tallied p m t o a = plus t (recordOf (answerOf p m (zeros (fromOf o + sizeOf o)) o a))
 
 -- ---- what the code asks and says of a tally
 
@@ -77,15 +78,15 @@ anySet t = not (eqb (t .updates .count + t .«update_errors» .count + t .«long
 unfoldable pub elementLength : Bool → ℕ → ℕ
 elementLength b n = cond b (3 + n) 0
 
-unfoldable pub replyLength : Tally → ℕ
-replyLength t = 1 + elementLength (t .capabilities) namesLength + elementLength (anyRead t) (readOctets t) + elementLength (anySet t) (setOctets t)
+unfoldable pub replyLength : (p : ℕ) → Tally → ℕ
+replyLength p t = 1 + elementLength (t .capabilities) (namesLength p) + elementLength (anyRead t) (readOctets t) + elementLength (anySet t) (setOctets t)
 
--- a reply of this tally fits a room of n octets
-unfoldable pub tallyFits : ℕ → Tally → Bool
-tallyFits n t =
+-- a reply of l octets and of this tally fits a room of n octets
+unfoldable pub tallyFits : ℕ → ℕ → Tally → Bool
+tallyFits l n t =
     every
-    (leb (replyLength t) n
-    ∷ leb (replyLength t) replyMost
+    (leb l n
+    ∷ leb l replyMost
     ∷ leb (t .values .count) countMost
     ∷ leb (t .«read_errors» .count) countMost
     ∷ leb (t .updates .count) countMost

@@ -51,20 +51,20 @@ fn one_more(c: Count, octets: usize) -> Count
 }
 
 // The octets that a read of the value at a place shows: the two sums for 8001.
-fn shown_length(m: &[u8], k: usize) -> usize
+fn shown_length(m: &[u8], k: usize, profile: u8) -> usize
     requires { ⌜ (length (now m) ≡ memoryLength) × (k < entryCount) ⌝ }
-    ensures { λ r. ⌜ (r ≡ length (shown (now (m .entry)) k)) × (r ≤ 470) ⌝ }
+    ensures { λ r. ⌜ (r ≡ length (shown profile (now (m .entry)) k)) × (r ≤ 470) ⌝ }
 {
     if k == table::COMMIT {
         return schedule::SUMS_LENGTH;
     }
-    memory::body(m, k).len()
+    memory::sent_body(m, k, profile).len()
 }
 
 // A tally and the record of one answer more, to an operation.
-fn add(t: Tally, m: &[u8], op: Op, a: Answer) -> Tally
+fn add(t: Tally, m: &[u8], op: Op, a: Answer, profile: u8) -> Tally
     requires { ⌜ (length (now m) ≡ memoryLength) × Below 16777216 t × Inside messageMost op × InTable a ⌝ }
-    ensures { λ r. ⌜ r ≡ tallied (now (m .entry)) t op a ⌝ }
+    ensures { λ r. ⌜ r ≡ tallied profile (now (m .entry)) t op a ⌝ }
 {
     let mut r = t;
     match a {
@@ -74,7 +74,7 @@ fn add(t: Tally, m: &[u8], op: Op, a: Answer) -> Tally
         }
         Answer::Value(k) => {
             let c = t.values;
-            r.values = one_more(c, wire::VALUE_HEAD + shown_length(m, k as usize));
+            r.values = one_more(c, wire::VALUE_HEAD + shown_length(m, k as usize, profile));
             r
         }
         Answer::ReadError(_) => {
@@ -103,12 +103,12 @@ fn add(t: Tally, m: &[u8], op: Op, a: Answer) -> Tally
 }
 
 // The tally of a whole list of operations. The copy is filled from the memory and holds afterwards what they leave.
-pub fn take(m: &[u8], list: &[u8], copy: &mut [u8]) -> Taken
-    requires { ⌜ (sound (now m) ≡ true) × (isSome (parse (now list)) ≡ true) × (length (now list) ≤ messageMost) × (length (now copy) ≡ memoryLength) ⌝ }
-    ensures { λ r. ⌜ r .tally ≡ tallyOf (records (now (m .entry)) (orNone (parse (now (list .entry))))) ⌝ }
+pub fn take(m: &[u8], list: &[u8], copy: &mut [u8], profile: u8) -> Taken
+    requires { ⌜ (sound (now m) ≡ true) × (isSome (parse profile (now list)) ≡ true) × (length (now list) ≤ messageMost) × (length (now copy) ≡ memoryLength) ⌝ }
+    ensures { λ r. ⌜ r .tally ≡ tallyOf (records profile (now (m .entry)) (orNone (parse profile (now (list .entry))))) ⌝ }
     ensures { λ r. ⌜ Below 16777216 (r .tally) ⌝ }
-    ensures { λ _. ⌜ now (copy .exit) ≡ after (now (m .entry)) (orNone (parse (now (list .entry)))) ⌝ }
-    ensures { λ r. ⌜ r .changed ≡ anyChange (answers (now (m .entry)) (orNone (parse (now (list .entry))))) ⌝ }
+    ensures { λ _. ⌜ now (copy .exit) ≡ after profile (now (m .entry)) (orNone (parse profile (now (list .entry)))) ⌝ }
+    ensures { λ r. ⌜ r .changed ≡ anyChange (answers profile (now (m .entry)) (orNone (parse profile (now (list .entry))))) ⌝ }
 {
     octets::renew(copy, m, true);
     let none = Count {
@@ -126,12 +126,12 @@ pub fn take(m: &[u8], list: &[u8], copy: &mut [u8]) -> Taken
     let mut changed = false;
     let mut at: usize = 0;
     loop {
-        let h = operation::hand_out(list, at);
+        let h = operation::hand_out(list, at, profile);
         let Handed::Operation(op, next) = h else {
             return Taken { tally: t, changed };
         };
-        let a = command::carry_out(copy, list, op);
-        t = add(t, copy, op, a);
+        let a = command::carry_out(copy, list, op, profile);
+        t = add(t, copy, op, a, profile);
         changed = changed | command::changes(a);
         at = next;
     }
@@ -184,11 +184,11 @@ fn element_length(needed: bool, n: usize) -> usize
 }
 
 // Octets of the whole reply.
-pub fn reply_length(t: Tally) -> usize
+pub fn reply_length(t: Tally, profile: u8) -> usize
     requires { ⌜ Below 16777216 t ⌝ }
-    ensures { λ r. ⌜ r ≡ replyLength t ⌝ }
+    ensures { λ r. ⌜ r ≡ replyLength profile t ⌝ }
 {
-    let names = element_length(t.capabilities, wire::NAMES_LENGTH);
+    let names = element_length(t.capabilities, records::names_length(profile));
     let reads = element_length(any_read(t), read_octets(t));
     let sets = element_length(any_set(t), set_octets(t));
     1 + names + reads + sets
@@ -196,8 +196,7 @@ pub fn reply_length(t: Tally) -> usize
 
 // Whether a reply of n octets fits its room and is no longer than any may be, and no count is over what its octet can tell.
 pub fn fits(t: Tally, n: usize, room: usize) -> bool
-    requires { ⌜ n ≡ replyLength t ⌝ }
-    ensures { λ r. ⌜ r ≡ tallyFits room t ⌝ }
+    ensures { λ r. ⌜ r ≡ tallyFits n room t ⌝ }
 {
     let sets = (t.updates.count <= wire::COUNT_MOST) & (t.update_errors.count <= wire::COUNT_MOST);
     let counts = (t.values.count <= wire::COUNT_MOST)

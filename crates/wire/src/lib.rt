@@ -1,6 +1,12 @@
 // What stands on the wire as a number, by name, and how much of each thing there may be. The definitions' own names for them
 // are in `Wire` of `meaning`; the contracts of the code that uses these hold the two together.
 
+// ---- profiles
+
+pub const RELEASE_18: u8 = 2;
+
+pub const RELEASE_16: u8 = 3;
+
 // ---- types of messages
 
 pub const TYPE_COMMAND: u8 = 0x01;
@@ -67,10 +73,12 @@ pub const ELEMENT_HEAD: usize = 3;
 // Octets of the type and the length (2) before a command's operations.
 pub const COMMAND_HEAD: usize = 3;
 
-// Octets of a name, and of all 19.
+// Octets of a name, of the 19 that Release 18 lists, and of the 18 that Release 16 does.
 pub const NAME_LENGTH: usize = 2;
 
 pub const NAMES_LENGTH: usize = 38;
+
+pub const NAMES_LENGTH_16: usize = 36;
 
 // ---- limits
 

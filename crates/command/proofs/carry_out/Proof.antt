@@ -107,8 +107,8 @@ returns-3 c =
     let k = c .before .before .before .before .before .before .before in
     let m = c .before .before .before .before .before .before .before .before .before .before .before .args .m .now in
     let n = k .op2 .given .0 .0 in
-    let e : firstFailed (setChecks m n (part (list k) (from k) (size k))) ≡ 0 = rw (part-is (list k) (from k) (size k)) at (sym (p .ensures .0) ∙ c .if1 .taken) in
-    rw (k .op2 .given .1) (p .ensures .1 ∙ ap (setMemory m n) (part-is (list k) (from k) (size k)), sym (ap told (answer-update m n _ e)))
+    let e : firstFailed (setChecks _ m n (part (list k) (from k) (size k))) ≡ 0 = rw (part-is (list k) (from k) (size k)) at (sym (p .ensures .0) ∙ c .if1 .taken) in
+    rw (k .op2 .given .1) (p .ensures .1 ∙ ap (setMemory _ m n) (part-is (list k) (from k) (size k)), sym (ap told (answer-update _ m n _ e)))
 
 same-length-3 : tie.Need-same-length-3
 same-length-3 c = search needs
@@ -120,8 +120,8 @@ returns-4 c =
     let k = c .before .before .before .before .before .before .before in
     let m = c .before .before .before .before .before .before .before .before .before .before .before .args .m .now in
     let n = k .op2 .given .0 .0 in
-    let e : p .result ≡ firstFailed (setChecks m n (part (list k) (from k) (size k))) = rw (part-is (list k) (from k) (size k)) at (p .ensures .0) in
-    rw (k .op2 .given .1) (p .ensures .1 ∙ ap (setMemory m n) (part-is (list k) (from k) (size k)), sym (ap told (answer-cause m n _ _ e (c .if1 .left))))
+    let e : p .result ≡ firstFailed (setChecks _ m n (part (list k) (from k) (size k))) = rw (part-is (list k) (from k) (size k)) at (p .ensures .0) in
+    rw (k .op2 .given .1) (p .ensures .1 ∙ ap (setMemory _ m n) (part-is (list k) (from k) (size k)), sym (ap told (answer-cause _ m n _ _ e (c .if1 .left))))
 
 same-length-4 : tie.Need-same-length-4
 same-length-4 c = search needs

@@ -6,9 +6,10 @@ use mathlib.Core.List.{[]}
 use borrow.Author.Needs.{needs}
 use Rattle.meaning.specs.FormB.{soundFormB}
 use Rattle.meaning.proofs.Tests.{denied, affirmed}
+use Rattle.meaning.proofs.Profiles.{in-sound}
 use Rattle.meaning.proofs.Sendings.{takeExpiry, gives}
-use Rattle.meaning.proofs.Formed.{sound-form, givesLent, asksForm, roomOf}
-use Rattle.endpoint.proofs.Lent.{rest-sound, gives-formed, gives-unsound}
+use Rattle.meaning.proofs.Formed.{givesLent, asksForm, roomOf}
+use Rattle.endpoint.proofs.Lent.{form-long, rest-in, gives-formed, gives-unsound}
 use Rattle.endpoint.proofs.expiry.Statement.{statement}
 use Rattle.endpoint.proofs.expiry.Tie as tie
 
@@ -33,10 +34,10 @@ part-take-expiry-start : tie.Need-part-take-expiry-start
 part-take-expiry-start c = search needs
 
 part-take-expiry-end : tie.Need-part-take-expiry-end
-part-take-expiry-end c = omega (arith, sound-form _ (tested c) .long)
+part-take-expiry-end c = omega (arith, form-long _ (tested c))
 
 take-expiry-requires : tie.Need-take-expiry-requires
-take-expiry-requires c κs = rest-sound _ (tested (c .before))
+take-expiry-requires c κs = in-sound _ _ (rest-in _ (tested (c .before)))
 
 same-length-2 : tie.Need-same-length-2
 same-length-2 c = search needs
@@ -46,7 +47,7 @@ unfolding gives givesLent
 returns-2 c =
     let p = c .before .before in
     let e = p .before .before in
-    gives-formed (e .before .before .before .before .args .memory .now) (tested e) takeExpiry (p .take-expiry .result) (p .take-expiry .last .0) [] (p .take-expiry .kept .0) (p .take-expiry .ensures)
+    gives-formed (e .before .before .before .before .args .memory .now) (tested e) takeExpiry (p .take-expiry .result) (p .take-expiry .last .0) [] (p .take-expiry .kept .0) (p .take-expiry .ensures _ (rest-in _ (tested e)))
 
 pub expiry-spec : {M : Type 1} → statement M
 expiry-spec =

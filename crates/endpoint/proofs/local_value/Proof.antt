@@ -6,9 +6,10 @@ use mathlib.Core.List.{[]}
 use borrow.Author.Needs.{needs}
 use Rattle.meaning.specs.FormB.{soundFormB}
 use Rattle.meaning.proofs.Tests.{denied, affirmed}
+use Rattle.meaning.proofs.Profiles.{in-sound}
 use Rattle.meaning.proofs.Sendings.{takeValue, gives}
-use Rattle.meaning.proofs.Formed.{sound-form, givesLent, asksForm, roomOf}
-use Rattle.endpoint.proofs.Lent.{rest-sound, gives-formed, gives-unsound}
+use Rattle.meaning.proofs.Formed.{givesLent, asksForm, roomOf}
+use Rattle.endpoint.proofs.Lent.{form-long, rest-in, gives-formed, gives-unsound}
 use Rattle.endpoint.proofs.local_value.Statement.{statement}
 use Rattle.endpoint.proofs.local_value.Tie as tie
 
@@ -34,10 +35,10 @@ part-take-value-start : tie.Need-part-take-value-start
 part-take-value-start c = search needs
 
 part-take-value-end : tie.Need-part-take-value-end
-part-take-value-end c = omega (arith, sound-form _ (tested c) .long)
+part-take-value-end c = omega (arith, form-long _ (tested c))
 
 take-value-requires : tie.Need-take-value-requires
-take-value-requires c κs = rest-sound _ (tested (c .before))
+take-value-requires c κs = in-sound _ _ (rest-in _ (tested (c .before)))
 
 same-length-2 : tie.Need-same-length-2
 same-length-2 c = search needs
@@ -48,7 +49,7 @@ returns-2 c =
     let p = c .before .before in
     let e = p .before .before in
     let a = e .before .before .before .before .before .args in
-    gives-formed (a .memory .now) (tested e) (takeValue (a .name) (a .value .now)) (p .take-value .result) (p .take-value .last .0) [] (p .take-value .kept .0) (p .take-value .ensures)
+    gives-formed (a .memory .now) (tested e) (takeValue (a .name) (a .value .now)) (p .take-value .result) (p .take-value .last .0) [] (p .take-value .kept .0) (p .take-value .ensures _ (rest-in _ (tested e)))
 
 pub local-value-spec : {M : Type 1} → statement M
 local-value-spec =

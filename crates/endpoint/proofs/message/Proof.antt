@@ -6,8 +6,8 @@ use borrow.Author.Needs.{needs}
 use Rattle.meaning.specs.FormB.{soundFormB}
 use Rattle.meaning.proofs.Tests.{denied, affirmed}
 use Rattle.meaning.proofs.Sendings.{takeMessage, gives}
-use Rattle.meaning.proofs.Formed.{sound-form, givesLent, asksForm, roomOf}
-use Rattle.endpoint.proofs.Lent.{rest-sound, gives-formed, gives-unsound}
+use Rattle.meaning.proofs.Formed.{givesLent, asksForm, roomOf}
+use Rattle.endpoint.proofs.Lent.{form-long, rest-in, gives-formed, gives-unsound}
 use Rattle.endpoint.proofs.message.Statement.{statement}
 use Rattle.endpoint.proofs.message.Tie as tie
 
@@ -26,6 +26,9 @@ returns c =
     let a = c .before .before .before .before .before .before .args in
     gives-unsound (a .memory .now) (takeMessage (a .sent .now) (a .room .now)) refl (sym (c .before .sound-form-b .ensures) ∙ denied _ (c .if1 .taken))
 
+slice-read-profile : tie.Need-slice-read-profile
+slice-read-profile c = omega (arith, form-long _ (tested (c .before)))
+
 sub-take-message : tie.Need-sub-take-message
 sub-take-message c = search needs
 
@@ -33,10 +36,10 @@ part-take-message-start : tie.Need-part-take-message-start
 part-take-message-start c = search needs
 
 part-take-message-end : tie.Need-part-take-message-end
-part-take-message-end c = omega (arith, sound-form _ (tested c) .long)
+part-take-message-end c = omega (arith, form-long _ (tested (c .before)))
 
 take-message-requires : tie.Need-take-message-requires
-take-message-requires c κs = rest-sound _ (tested (c .before .before))
+take-message-requires c κs = rest-in _ (tested (c .before .before .before))
 
 same-length-2 : tie.Need-same-length-2
 same-length-2 c = search needs
@@ -48,7 +51,7 @@ returns-2 : tie.Need-returns-2
 unfolding gives givesLent
 returns-2 c =
     let p = c .before .before .before .before in
-    let e = p .before .before .before in
+    let e = p .before .before .before .before in
     let a = e .before .before .before .before .before .before .args in
     gives-formed (a .memory .now) (tested e) (takeMessage (a .sent .now) (a .room .now)) (p .take-message .result) (p .take-message .last .0) (p .take-message .last .1 .1 .0) (p .take-message .kept .0) (p .take-message .ensures)
 
@@ -59,6 +62,7 @@ message-spec =
     sound-form-b-requires
     same-length
     returns
+    slice-read-profile
     sub-take-message
     part-take-message-start
     part-take-message-end

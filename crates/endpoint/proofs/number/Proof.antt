@@ -49,6 +49,9 @@ enum-told-14 c = search needs
 enum-told-15 : tie.Need-enum-told-15
 enum-told-15 c = search needs
 
+enum-told-16 : tie.Need-enum-told-16
+enum-told-16 c = search needs
+
 returns : tie.Need-returns
 unfolding numberOf
 returns c = search needs
@@ -109,6 +112,10 @@ returns-15 : tie.Need-returns-15
 unfolding numberOf
 returns-15 c = search needs
 
+returns-16 : tie.Need-returns-16
+unfolding numberOf
+returns-16 c = search needs
+
 pub number-spec : {M : Type 1} → statement M
 number-spec =
     tie.close
@@ -128,6 +135,7 @@ number-spec =
     enum-told-13
     enum-told-14
     enum-told-15
+    enum-told-16
     returns
     returns-2
     returns-3
@@ -142,4 +150,5 @@ number-spec =
     returns-12
     returns-13
     returns-14
-    returns-15)
+    returns-15
+    returns-16)

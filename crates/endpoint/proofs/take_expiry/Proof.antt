@@ -30,10 +30,9 @@ same-length c = search needs
 
 returns : tie.Need-returns
 unfolding numberOf lengthOf positionOf
-returns c =
-    let s = c .before .before .before .before in
-    let m = s .args .memory .now in
-    gives-number m [] 8 Idle (expiry-8 m (s .pre) (sym (c .before .waiting .ensures) ∙ denied _ (c .if1 .taken))) refl refl refl
+returns c p s =
+    let m = c .before .before .before .before .args .memory .now in
+    gives-number m [] 8 Idle (expiry-8 p m s (sym (c .before .waiting .ensures) ∙ denied _ (c .if1 .taken))) refl refl refl
 
 expiries-requires : tie.Need-expiries-requires
 expiries-requires c κs = opened _ (c .before .before .before .before .before .pre) .long
@@ -49,13 +48,12 @@ same-length-2 c = search needs
 
 returns-2 : tie.Need-returns-2
 unfolding numberOf lengthOf positionOf
-returns-2 c =
+returns-2 c p s =
     let t = c .before .before .before .before in
     let e = t .before .expiries .ensures in
     let k = t .before .before .before in
-    let s = k .before .before .before .before in
-    let m = s .args .memory .now in
-    gives-left (setTimer m 1 (expiries m + 1)) 20 SendAgain (expiry-again m (s .pre) (waits k) (omega (arith, e, t .if2 .taken))) refl refl refl
+    let m = k .before .before .before .before .args .memory .now in
+    gives-left (setTimer m 1 (expiries m + 1)) 20 SendAgain (expiry-again p m s (waits k) (omega (arith, e, t .if2 .taken))) refl refl refl
     (counted-on m e (c .before .before .set-timer .ensures))
 
 end-wait-requires : tie.Need-end-wait-requires
@@ -66,13 +64,12 @@ same-length-3 c = search needs
 
 returns-3 : tie.Need-returns-3
 unfolding numberOf lengthOf positionOf momentOf
-returns-3 c =
+returns-3 c p s =
     let t = c .before .before .before .before in
     let e = t .before .expiries .ensures in
     let k = t .before .before .before in
-    let s = k .before .before .before .before in
-    let m = s .args .memory .now in
-    gives-left (idled whenGivenUp m) 21 GivenUp (expiry-given-up m (s .pre) (waits k) (omega (arith, e, t .if2 .left))) refl refl refl (c .before .before .end-wait .ensures)
+    let m = k .before .before .before .before .args .memory .now in
+    gives-left (idled whenGivenUp m) 21 GivenUp (expiry-given-up p m s (waits k) (omega (arith, e, t .if2 .left))) refl refl refl (c .before .before .end-wait .ensures)
 
 pub take-expiry-spec : {M : Type 1} → statement M
 take-expiry-spec =

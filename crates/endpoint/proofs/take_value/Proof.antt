@@ -22,10 +22,9 @@ permitted-requires c κs = search needs
 
 returns : tie.Need-returns
 unfolding numberOf lengthOf positionOf
-returns c =
-    let s = c .before .before .before .before in
-    let a = s .args in
-    gives-number (a .memory .now) [] 12 NotPermitted (localValue-12 (a .memory .now) (a .name) (a .value .now) (s .pre) (sym (c .before .permitted .ensures) ∙ denied _ (c .if1 .taken))) refl refl refl
+returns c p s =
+    let a = c .before .before .before .before .args in
+    gives-number (a .memory .now) [] 12 NotPermitted (localValue-12 p (a .memory .now) (a .name) (a .value .now) s (sym (c .before .permitted .ensures) ∙ denied _ (c .if1 .taken))) refl refl refl
 
 place-of-requires : tie.Need-place-of-requires
 place-of-requires c κs = search needs
@@ -42,13 +41,12 @@ same-length c = search needs
 
 returns-2 : tie.Need-returns-2
 unfolding numberOf lengthOf positionOf
-returns-2 c =
-    let p = c .before .before .before in
-    let k = p .before .before in
-    let s = k .before .before .before .before in
-    let a = s .args in
-    gives-left (localMemory (a .memory .now) (p .place-of .result) (a .value .now)) 0 (Done 0)
-    (local-does (a .memory .now) (a .name) _ (a .value .now) (p .place-of .ensures) (s .pre) (may k)) refl refl refl (c .before .before .store .ensures)
+returns-2 c p s =
+    let q = c .before .before .before in
+    let k = q .before .before in
+    let a = k .before .before .before .before .args in
+    gives-left (localMemory (a .memory .now) (q .place-of .result) (a .value .now)) 0 (Done 0)
+    (local-does p (a .memory .now) (a .name) _ (a .value .now) (q .place-of .ensures) s (may k)) refl refl refl (c .before .before .store .ensures)
 
 pub take-value-spec : {M : Type 1} → statement M
 take-value-spec = tie.close (tie.spec permitted-requires returns place-of-requires store-requires same-length returns-2)

@@ -6,7 +6,7 @@ use Rattle.meaning.specs.Table.{rowAt, byPort}
 use Rattle.meaning.specs.Block.{permits}
 use Rattle.meaning.proofs.Tests.{denied, affirmed}
 use Rattle.table.proofs.Rows.{owner-is}
-use Rattle.local.proofs.Values.{unlisted, foreign, made-absent, asked}
+use Rattle.local.proofs.Values.{no-entry, foreign, made-absent, asked}
 use Rattle.local.proofs.permitted.Statement.{statement}
 use Rattle.local.proofs.permitted.Tie as tie
 
@@ -20,7 +20,7 @@ place-of-requires c κs = search needs
 returns : tie.Need-returns
 returns c =
     let a = c .before .before .before .args in
-    sym (unlisted (a .name) (a .value .now) (omega (arith, c .before .place-of .ensures, c .if1 .taken)))
+    sym (no-entry (a .name) (a .value .now) (omega (arith, c .before .place-of .ensures, c .if1 .taken)))
 
 row-at-requires : tie.Need-row-at-requires
 row-at-requires c κs = search needs

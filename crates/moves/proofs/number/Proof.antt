@@ -16,6 +16,9 @@ enum-told-3 c = search needs
 enum-told-4 : tie.Need-enum-told-4
 enum-told-4 c = search needs
 
+enum-told-5 : tie.Need-enum-told-5
+enum-told-5 c = search needs
+
 returns : tie.Need-returns
 unfolding numberOf
 returns c = search needs
@@ -32,6 +35,10 @@ returns-4 : tie.Need-returns-4
 unfolding numberOf
 returns-4 c = search needs
 
+returns-5 : tie.Need-returns-5
+unfolding numberOf
+returns-5 c = search needs
+
 pub number-spec : {M : Type 1} → statement M
 number-spec =
     tie.close
@@ -40,7 +47,9 @@ number-spec =
     enum-told-2
     enum-told-3
     enum-told-4
+    enum-told-5
     returns
     returns-2
     returns-3
-    returns-4)
+    returns-4
+    returns-5)

@@ -15,9 +15,9 @@ pending-requires : tie.Need-pending-requires
 pending-requires c κs = search needs
 
 returns : tie.Need-returns
-returns c =
+returns c p =
     let a = c .before .before .before .args in
-    more-none (a .m .now) (a .k) (a .d) (sym (c .before .pending .ensures) ∙ denied _ (c .if1 .taken))
+    more-none p (a .m .now) (a .k) (a .d) (sym (c .before .pending .ensures) ∙ denied _ (c .if1 .taken))
 
 present-requires : tie.Need-present-requires
 present-requires c κs = search needs
@@ -26,10 +26,10 @@ add-r : tie.Need-add-r
 add-r c = search needs
 
 returns-2 : tie.Need-returns-2
-returns-2 c =
+returns-2 c p =
     let k = c .before .before in
     let a = c .before .before .before .before .before .before .args in
-    more-absent (a .m .now) (a .k) (a .d) (marked (k .before)) (sym (k .present .ensures) ∙ denied _ (c .before .if2 .taken))
+    more-absent p (a .m .now) (a .k) (a .d) (marked (k .before)) (sym (k .present .ensures) ∙ denied _ (c .before .if2 .taken))
 
 add-r-2 : tie.Need-add-r-2
 add-r-2 c = search needs
@@ -44,10 +44,10 @@ add-r-4 : tie.Need-add-r-4
 add-r-4 c = search needs
 
 returns-3 : tie.Need-returns-3
-returns-3 c =
+returns-3 c p =
     let k = c .before .before .before .before in
     let a = c .before .before .before .before .before .before .before .before .args in
-    more-value (a .m .now) (a .k) (a .d) (marked (k .before)) (sym (k .present .ensures) ∙ affirmed _ (c .before .before .before .if2 .left)) (c .body .ensures)
+    more-value p (a .m .now) (a .k) (a .d) (marked (k .before)) (sym (k .present .ensures) ∙ affirmed _ (c .before .before .before .if2 .left)) (c .body .ensures)
 
 pub with-entry-spec : {M : Type 1} → statement M
 with-entry-spec =

@@ -17,42 +17,42 @@ use Rattle.notification.proofs.write.Tie as tie
 -- what is left after each piece
 begun : (c : tie.Start)
     → let a = c .args in
-    Left (a .out .now) 0 (notification (a .m .now)) (a .out .now) 0 (headOf (a .d) ++ afterHead (a .d) (reports (a .m .now) entryCount))
+    Left (a .out .now) 0 (notification (a .profile) (a .m .now)) (a .out .now) 0 (headOf (a .d) ++ afterHead (a .d) (reports (a .profile) (a .m .now) entryCount))
 begun c =
     let a = c .args in
-    started (a .m .now) (a .d) (c .pre .1) (a .out .now) (c .pre .0) (c .pre .2)
+    started (a .profile) (a .m .now) (a .d) (c .pre .1) (a .out .now) (c .pre .0) (c .pre .2)
 
 headed : (c : tie.After-write-head)
     → let a = c .before .before .before .before .before .before .args in
-    Left (a .out .now) 0 (notification (a .m .now)) (c .write-head .last .0) (c .write-head .result) (afterHead (a .d) (reports (a .m .now) entryCount))
+    Left (a .out .now) 0 (notification (a .profile) (a .m .now)) (c .write-head .last .0) (c .write-head .result) (afterHead (a .d) (reports (a .profile) (a .m .now) entryCount))
 unfolding be16
 headed c =
     let a = c .before .before .before .before .before .before .args in
-    left-next (headOf (a .d)) (afterHead (a .d) (reports (a .m .now) entryCount)) (begun (c .before .before .before .before .before .before)) (c .write-head .ensures)
+    left-next (headOf (a .d)) (afterHead (a .d) (reports (a .profile) (a .m .now) entryCount)) (begun (c .before .before .before .before .before .before)) (c .write-head .ensures)
 
 numbered : (c : tie.After-write-count)
     → let a = c .before .before .before .before .before .before .before .before .before .before .args in
-    Left (a .out .now) 0 (notification (a .m .now)) (c .write-count .last .0) (c .write-count .result) (afterCount (a .d) (reports (a .m .now) entryCount))
+    Left (a .out .now) 0 (notification (a .profile) (a .m .now)) (c .write-count .last .0) (c .write-count .result) (afterCount (a .d) (reports (a .profile) (a .m .now) entryCount))
 numbered c =
     let a = c .before .before .before .before .before .before .before .before .before .before .args in
-    left-next (a .d .values ∷ []) (afterCount (a .d) (reports (a .m .now) entryCount)) (headed (c .before .before .before .before)) (c .write-count .ensures)
+    left-next (a .d .values ∷ []) (afterCount (a .d) (reports (a .profile) (a .m .now) entryCount)) (headed (c .before .before .before .before)) (c .write-count .ensures)
 
 valued : (c : tie.After-write-kind)
     → let a = c .before .before .before .before .before .before .before .before .before .before .before .before .before .before .args in
-    Left (a .out .now) 0 (notification (a .m .now)) (c .write-kind .last .1 .1 .0) (c .write-kind .result) (afterValues (a .d) (reports (a .m .now) entryCount))
+    Left (a .out .now) 0 (notification (a .profile) (a .m .now)) (c .write-kind .last .1 .1 .0) (c .write-kind .result) (afterValues (a .d) (reports (a .profile) (a .m .now) entryCount))
 valued c =
     let a = c .before .before .before .before .before .before .before .before .before .before .before .before .before .before .args in
-    left-next (partOf true (reports (a .m .now) entryCount)) (afterValues (a .d) (reports (a .m .now) entryCount)) (numbered (c .before .before .before .before)) (c .write-kind .ensures)
+    left-next (partOf true (reports (a .profile) (a .m .now) entryCount)) (afterValues (a .d) (reports (a .profile) (a .m .now) entryCount)) (numbered (c .before .before .before .before)) (c .write-kind .ensures)
 
 counted : (c : tie.After-write-count2)
     → let a = c .before .before .before .before .before .before .before .before .before .before .before .before .before .before .before .before .before .before .args in
-    Left (a .out .now) 0 (notification (a .m .now)) (c .write-count2 .last .0) (c .write-count2 .result) (partOf false (reports (a .m .now) entryCount))
+    Left (a .out .now) 0 (notification (a .profile) (a .m .now)) (c .write-count2 .last .0) (c .write-count2 .result) (partOf false (reports (a .profile) (a .m .now) entryCount))
 counted c =
     let a = c .before .before .before .before .before .before .before .before .before .before .before .before .before .before .before .before .before .before .args in
-    left-next (a .d .absent ∷ []) (partOf false (reports (a .m .now) entryCount)) (valued (c .before .before .before .before)) (c .write-count2 .ensures)
+    left-next (a .d .absent ∷ []) (partOf false (reports (a .profile) (a .m .now) entryCount)) (valued (c .before .before .before .before)) (c .write-count2 .ensures)
 
 small : (c : tie.Start) → (2 + c .args .d .octets + 3 * c .args .d .absent < 65536) × (c .args .d .values ≤ 255) × (c .args .d .absent ≤ 255)
-small c = due-small (c .args .m .now) (c .args .d) (c .pre .1) (c .pre .0)
+small c = due-small (c .args .profile) (c .args .m .now) (c .args .d) (c .pre .1) (c .pre .0)
 
 add-write-head : tie.Need-add-write-head
 add-write-head c = omega (arith, small (c .before .before .before .before) .0)
@@ -68,25 +68,25 @@ unfolding be16
 write-head-requires c κs =
     let s = c .before .before .before .before .before in
     let a = s .args in
-    (first-fits (headOf (a .d)) (afterHead (a .d) (reports (a .m .now) entryCount)) (begun s), small s .0)
+    (first-fits (headOf (a .d)) (afterHead (a .d) (reports (a .profile) (a .m .now) entryCount)) (begun s), small s .0)
 
 write-count-requires : tie.Need-write-count-requires
 write-count-requires c κs =
     let s = c .before .before .before .before .before .before .before .before .before in
     let a = s .args in
-    (first-fits (a .d .values ∷ []) (afterCount (a .d) (reports (a .m .now) entryCount)) (headed (c .before .before .before)), small s .1)
+    (first-fits (a .d .values ∷ []) (afterCount (a .d) (reports (a .profile) (a .m .now) entryCount)) (headed (c .before .before .before)), small s .1)
 
 write-kind-requires : tie.Need-write-kind-requires
 write-kind-requires c κs =
     let s = c .before .before .before .before .before .before .before .before .before .before .before .before .before in
     let a = s .args in
-    (opened _ (s .pre .0) .long, first-fits (partOf true (reports (a .m .now) entryCount)) (afterValues (a .d) (reports (a .m .now) entryCount)) (numbered (c .before .before .before)))
+    (opened _ (s .pre .0) .long, first-fits (partOf true (reports (a .profile) (a .m .now) entryCount)) (afterValues (a .d) (reports (a .profile) (a .m .now) entryCount)) (numbered (c .before .before .before)))
 
 write-count-requires-2 : tie.Need-write-count-requires-2
 write-count-requires-2 c κs =
     let s = c .before .before .before .before .before .before .before .before .before .before .before .before .before .before .before .before .before in
     let a = s .args in
-    (first-fits (a .d .absent ∷ []) (partOf false (reports (a .m .now) entryCount)) (valued (c .before .before .before)), small s .2)
+    (first-fits (a .d .absent ∷ []) (partOf false (reports (a .profile) (a .m .now) entryCount)) (valued (c .before .before .before)), small s .2)
 
 write-kind-requires-2 : tie.Need-write-kind-requires-2
 write-kind-requires-2 c κs = (opened _ (c .before .before .before .before .before .before .before .before .before .before .before .before .before .before .before .before .before .before .before .before .before .pre .0) .long, left-fits (counted (c .before .before .before)))

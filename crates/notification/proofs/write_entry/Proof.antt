@@ -8,6 +8,7 @@ use lib.ListN.{length}
 use borrow.Author.Needs.{needs}
 use Rattle.meaning.specs.Table.{rowAt}
 use Rattle.meaning.specs.Memory.{body, pending}
+use Rattle.meaning.specs.Profile.{causeAbsent}
 use Rattle.meaning.specs.Reply.{heldOctets, failedOctets}
 use Rattle.meaning.proofs.Tests.{denied, affirmed}
 use Rattle.meaning.proofs.Answered.{body-length}
@@ -34,16 +35,16 @@ module _ (c : tie.After-row-at) where
 -- the record that is due
 module _ (c : tie.After-present) where
   valued : {b : List ℕ} → c .present .result ≡ true → c .before .before .before .before .before .before .args .values ≡ true → b ≡ body (c .before .before .before .before .before .before .args .m .now) (c .before .before .before .before .before .before .args .k)
-      → partOf (c .before .before .before .before .before .before .args .values) (dueAt (c .before .before .before .before .before .before .args .m .now) (c .before .before .before .before .before .before .args .k)) ≡ heldOctets (record { name = c .before .row-at .result .name; value = b })
+      → partOf (c .before .before .before .before .before .before .args .values) (dueAt (c .before .before .before .before .before .before .args .profile) (c .before .before .before .before .before .before .args .m .now) (c .before .before .before .before .before .before .args .k)) ≡ heldOctets (record { name = c .before .row-at .result .name; value = b })
   valued p v e =
       let a = c .before .before .before .before .before .before .args in
-      part-value (a .m .now) (a .k) (a .values) (marked (c .before .before)) v (sym (c .present .ensures) ∙ p) (name-at (c .before)) e
+      part-value (a .profile) (a .m .now) (a .k) (a .values) (marked (c .before .before)) v (sym (c .present .ensures) ∙ p) (name-at (c .before)) e
 
-  failing : c .present .result ≡ false → c .before .before .before .before .before .before .args .values ≡ false
-      → partOf (c .before .before .before .before .before .before .args .values) (dueAt (c .before .before .before .before .before .before .args .m .now) (c .before .before .before .before .before .before .args .k)) ≡ failedOctets (record { name = c .before .row-at .result .name; cause = 0x03 })
-  failing p v =
+  failing : {x : ℕ} → c .present .result ≡ false → c .before .before .before .before .before .before .args .values ≡ false → x ≡ causeAbsent (c .before .before .before .before .before .before .args .profile)
+      → partOf (c .before .before .before .before .before .before .args .values) (dueAt (c .before .before .before .before .before .before .args .profile) (c .before .before .before .before .before .before .args .m .now) (c .before .before .before .before .before .before .args .k)) ≡ failedOctets (record { name = c .before .row-at .result .name; cause = x })
+  failing p v e =
       let a = c .before .before .before .before .before .before .args in
-      part-absent (a .m .now) (a .k) (a .values) (marked (c .before .before)) v (sym (c .present .ensures) ∙ p) (name-at (c .before))
+      part-absent (a .profile) (a .m .now) (a .k) (a .values) (marked (c .before .before)) v (sym (c .present .ensures) ∙ p) (name-at (c .before)) e
 
 pending-requires : tie.Need-pending-requires
 pending-requires c κs = search needs
@@ -51,7 +52,7 @@ pending-requires c κs = search needs
 returns : tie.Need-returns
 returns c =
     let a = c .before .before .before .before .args in
-    wrote-none (a .out .now) (a .at) (part-none (a .m .now) (a .k) (a .values) (sym (c .before .pending .ensures) ∙ denied _ (c .if1 .taken)))
+    wrote-none (a .out .now) (a .at) (part-none (a .profile) (a .m .now) (a .k) (a .values) (sym (c .before .pending .ensures) ∙ denied _ (c .if1 .taken)))
 
 row-at-requires : tie.Need-row-at-requires
 row-at-requires c κs = search needs
@@ -63,7 +64,7 @@ returns-2 : tie.Need-returns-2
 returns-2 c =
     let p = c .before .before in
     let a = p .before .before .before .before .before .before .args in
-    wrote-none (a .out .now) (a .at) (part-not-absent (a .m .now) (a .k) (a .values) (marked (p .before .before)) (denied _ (c .if3 .taken)) (sym (p .present .ensures) ∙ c .before .if2 .taken))
+    wrote-none (a .out .now) (a .at) (part-not-absent (a .profile) (a .m .now) (a .k) (a .values) (marked (p .before .before)) (denied _ (c .if3 .taken)) (sym (p .present .ensures) ∙ c .before .if2 .taken))
 
 body-requires : tie.Need-body-requires
 body-requires c κs = search needs
@@ -91,13 +92,17 @@ returns-4 : tie.Need-returns-4
 returns-4 c =
     let p = c .before .before in
     let a = p .before .before .before .before .before .before .args in
-    wrote-none (a .out .now) (a .at) (part-no-value (a .m .now) (a .k) (a .values) (marked (p .before .before)) (c .if4 .taken) (sym (p .present .ensures) ∙ c .before .if2 .left))
+    wrote-none (a .out .now) (a .at) (part-no-value (a .profile) (a .m .now) (a .k) (a .values) (marked (p .before .before)) (c .if4 .taken) (sym (p .present .ensures) ∙ c .before .if2 .left))
+
+absent-cause-requires : tie.Need-absent-cause-requires
+absent-cause-requires c κs = search needs
 
 write-failed-requires : tie.Need-write-failed-requires
 write-failed-requires c κs =
-    let p = c .before .before .before in
+    let p = c .before .before .before .before in
     let s = p .before .before .before .before .before .before in
-    (omega (arith, s .pre .2, ap length (failing p (c .before .before .if2 .left) (c .before .if4 .left)), failed-length (record { name = p .before .row-at .result .name; cause = 3 })), named (p .before))
+    let e = failing p (c .before .before .before .if2 .left) (c .before .before .if4 .left) (c .absent-cause .ensures) in
+    (omega (arith, s .pre .2, ap length e, failed-length (record { name = p .before .row-at .result .name; cause = c .absent-cause .result })), named (p .before))
 
 same-length-2 : tie.Need-same-length-2
 same-length-2 c = search needs
@@ -105,9 +110,9 @@ same-length-2 c = search needs
 returns-5 : tie.Need-returns-5
 returns-5 c =
     let q = c .before .before .before in
-    let p = q .before .before .before in
+    let p = q .before .before .before .before in
     let a = p .before .before .before .before .before .before .args in
-    wrote-this (a .out .now) (a .at) (failing p (q .before .before .if2 .left) (q .before .if4 .left)) (c .before .before .write-failed .ensures)
+    wrote-this (a .out .now) (a .at) (failing p (q .before .before .before .if2 .left) (q .before .before .if4 .left) (q .absent-cause .ensures)) (c .before .before .write-failed .ensures)
 
 pub write-entry-spec : {M : Type 1} → statement M
 write-entry-spec =
@@ -123,6 +128,7 @@ write-entry-spec =
     same-length
     returns-3
     returns-4
+    absent-cause-requires
     write-failed-requires
     same-length-2
     returns-5)

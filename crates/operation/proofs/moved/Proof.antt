@@ -38,7 +38,7 @@ use Rattle.operation.proofs.moved.Statement as stated
 use Rattle.operation.proofs.moved.Code as code
 
 abbrev stay : Stays (f.ended .signature .params) (f.ended .kept)
-stay = (reader-stays, (number-stays, tt))
+stay = (reader-stays, (number-stays w64, tt))
 
 module _ {M : Type 1} (𝓤 : URA M) (H : Heap 𝓤) (A : Atoms 𝓤) (W : Given 𝓤 H A) (mem : Memory → SProp 𝓤) (run : Routine → Fun 𝓤)
     (κ : Lft) (q : Share) (r : Reader) (n : ℕ) (ok : n < 2 ^ 64) where
@@ -91,7 +91,7 @@ moved-spec 𝓤 H 𝓜 𝓖 𝓡 =
     let mem = 𝓜 .mem in
     let 𝓣 = tablesOf 𝓤 H 𝓜 (tables 𝓤 H 𝓜 𝓡 code.env) in
     entered 𝓤 H (tripleOf 𝓤 H A f.signature (f.spec 𝓤 H A mem (𝓡 .run))) (𝓣 .C) (𝓣 .Λ) #key code.function (code.unfolded 𝓤 H 𝓜 𝓡)
-    (meets 𝓤 H A W f.ended stay (reader-goes 𝓤 H A W, (number-goes 𝓤 H A W, tt)) (f.clauses 𝓤 H A mem (𝓡 .run)) 𝓣 code.function
+    (meets 𝓤 H A W f.ended stay (reader-goes 𝓤 H A W, (number-goes 𝓤 H A W w64, tt)) (f.clauses 𝓤 H A mem (𝓡 .run)) 𝓣 code.function
     (λ κs. (reader-vals κs, (uint-vals w64, tt))) (λ κs. (reader-tells κs, (uint-tells w64, tt)))
     (λ κs qs bounds a g are. walk 𝓤 H A W mem (𝓡 .run) (κs .0) (qs .0) (a .0) (a .1 .0) (are .1 .0 .1) (𝓣 .C) (𝓣 .Λ)
     (reader-typed 𝓤 H A W (κs .0) (a .0) (are .0))))

@@ -9,7 +9,7 @@ use Rattle.operation.proofs.operation_at.Statement.{statement}
 use Rattle.operation.proofs.operation_at.Tie as tie
 
 returns : tie.Need-returns
-returns c = past _ _ (c .if1 .taken)
+returns c = past _ _ _ (c .if1 .taken)
 
 sub-left : tie.Need-sub-left
 sub-left c = search needs
@@ -17,11 +17,11 @@ sub-left c = search needs
 shared-slice-read-code : tie.Need-shared-slice-read-code
 shared-slice-read-code c = search needs
 
-add-t12 : tie.Need-add-t12
-add-t12 c = search needs
+add-t13 : tie.Need-add-t13
+add-t13 c = search needs
 
 returns-2 : tie.Need-returns-2
-returns-2 c = capabilities-found _ _ (c .before .before .if1 .left) (c .if2 .taken)
+returns-2 c = capabilities-found _ _ _ (c .before .before .if1 .left) (c .if2 .taken)
 
 malformed-at-requires : tie.Need-malformed-at-requires
 malformed-at-requires c κs = search needs
@@ -30,7 +30,7 @@ returns-3 : tie.Need-returns-3
 unfolding foundAt
 returns-3 c =
     let i = c .before in
-    c .malformed-at .ensures ∙ name-cut _ _ (i .before .before .before .if1 .left) (i .before .if2 .left) (i .if3 .taken)
+    c .malformed-at .ensures ∙ name-cut _ _ _ (i .before .before .before .if1 .left) (i .before .if2 .left) (i .if3 .taken)
 
 add-get16 : tie.Need-add-get16
 add-get16 c = search needs
@@ -47,17 +47,17 @@ valued-at-requires c κs =
 returns-4 : tie.Need-returns-4
 returns-4 c = search needs
 
-add-t8 : tie.Need-add-t8
-add-t8 c = search needs
+add-t9 : tie.Need-add-t9
+add-t9 c = search needs
 
 returns-5 : tie.Need-returns-5
 returns-5 c =
     let i = c .before .before in
     let e = i .before .before .before in
     let n = c .before .get16 in
-    ⊎-elim (λ w. read-found _ _ (e .if1 .left) (n .result) _ (i .if3 .left) (n .ensures .0) (w .0 .keys1) (w .1))
-    (⊎-elim (λ w. subscribe-found _ _ (e .if1 .left) (n .result) _ (i .if3 .left) (n .ensures .0) (w .0 .keys2) (w .1))
-    (λ w. unsubscribe-found _ _ (e .if1 .left) (n .result) _ (i .if3 .left) (n .ensures .0) (w .0 .keys3) (w .1)))
+    ⊎-elim (λ w. read-found _ _ _ (e .if1 .left) (n .result) _ (i .if3 .left) (n .ensures .0) (w .0 .keys1) (w .1))
+    (⊎-elim (λ w. subscribe-found _ _ _ (e .if1 .left) (n .result) _ (i .if3 .left) (n .ensures .0) (w .0 .keys2) (w .1))
+    (λ w. unsubscribe-found _ _ _ (e .if1 .left) (n .result) _ (i .if3 .left) (n .ensures .0) (w .0 .keys3) (w .1)))
     (c .match .came)
 
 pub operation-at-spec : {M : Type 1} → statement M
@@ -67,7 +67,7 @@ operation-at-spec =
     returns
     sub-left
     shared-slice-read-code
-    add-t12
+    add-t13
     returns-2
     malformed-at-requires
     returns-3
@@ -75,5 +75,5 @@ operation-at-spec =
     get16-requires
     valued-at-requires
     returns-4
-    add-t8
+    add-t9
     returns-5)

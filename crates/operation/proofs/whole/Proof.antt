@@ -11,14 +11,15 @@ use Rattle.operation.proofs.whole.Statement.{statement}
 use Rattle.operation.proofs.whole.Tie as tie
 
 abbrev Inv-loop : tie.InvT-loop
-Inv-loop list at₀ at = (at ≤ length list) × (isSome (parse (drop at list)) ≡ isSome (parse list)) × (broken (drop at list) ≡ broken list)
+Inv-loop list profile at₀ at =
+    (at ≤ length list) × (isSome (parse profile (drop at list)) ≡ isSome (parse profile list)) × (broken profile (drop at list) ≡ broken profile list)
 
 abbrev μ-loop : tie.MeasureT-loop
-μ-loop list at₀ at = length list - at
+μ-loop list profile at₀ at = length list - at
 
 -- what the list hands out at the place
-hands : (c : tie.After-hand-out Inv-loop μ-loop) → HandsOut (c .before .before .before .args .list .now) (c .before .loop .at) (c .hand-out .result)
-hands c = hands-out _ (λ i. omega (arith, c .before .before .shared-slice-known .given i)) _ _ (c .hand-out .ensures)
+hands : (c : tie.After-hand-out Inv-loop μ-loop) → HandsOut (c .before .before .before .args .profile) (c .before .before .before .args .list .now) (c .before .loop .at) (c .hand-out .result)
+hands c = hands-out _ _ (λ i. omega (arith, c .before .before .shared-slice-known .given i)) _ _ (c .hand-out .ensures)
 
 loop-holds : tie.Need-loop-holds Inv-loop μ-loop
 loop-holds c = (omega arith, refl, refl)
@@ -31,32 +32,32 @@ enum-known-next c = search needs
 
 loop-less : tie.Need-loop-less Inv-loop μ-loop
 loop-less c =
-    let h = subst (HandsOut _ _) (c .before .next .given .1) (hands (c .before .before .before)) in
+    let h = subst (HandsOut _ _ _) (c .before .next .given .1) (hands (c .before .before .before)) in
     omega (arith, h .1 .0, h .1 .1)
 
 loop-again : tie.Need-loop-again Inv-loop μ-loop
 loop-again c =
-    let h = subst (HandsOut _ _) (c .before .next .given .1) (hands (c .before .before .before)) in
+    let h = subst (HandsOut _ _ _) (c .before .next .given .1) (hands (c .before .before .before)) in
     let l = c .before .before .before .before .loop in
-    (h .1 .1, sym (turn-some _ (l .at) _ _ (h .0)) ∙ l .inv .1, sym (turn-broken _ (l .at) _ _ (h .0)) ∙ l .inv .2)
+    (h .1 .1, sym (turn-some _ _ (l .at) _ _ (h .0)) ∙ l .inv .1, sym (turn-broken _ _ (l .at) _ _ (h .0)) ∙ l .inv .2)
 
 enum-known-position : tie.Need-enum-known-position Inv-loop μ-loop
 enum-known-position c = search needs
 
 returns : tie.Need-returns Inv-loop μ-loop
 returns c =
-    let h = subst (HandsOut _ _) (c .before .position .given .1) (hands (c .before .before .before)) in
+    let h = subst (HandsOut _ _ _) (c .before .position .given .1) (hands (c .before .before .before)) in
     let l = c .before .before .before .before .loop in
-    breaks-at _ (l .at) _ (l .inv .0) (sym (l .inv .1) ∙ ap isSome (turn-malformed _ (l .at) _ (h .0))) (sym (l .inv .2) ∙ turn-breaks _ (l .at) _ (h .0)) (h .1)
+    breaks-at _ _ (l .at) _ (l .inv .0) (sym (l .inv .1) ∙ ap isSome (turn-malformed _ _ (l .at) _ (h .0))) (sym (l .inv .2) ∙ turn-breaks _ _ (l .at) _ (h .0)) (h .1)
 
 enum-told : tie.Need-enum-told Inv-loop μ-loop
 enum-told c = search needs
 
 returns-2 : tie.Need-returns-2 Inv-loop μ-loop
 returns-2 c =
-    let h = subst (HandsOut _ _) (c .enum-told .given .1) (hands (c .before .before)) in
+    let h = subst (HandsOut _ _ _) (c .enum-told .given .1) (hands (c .before .before)) in
     let l = c .before .before .before .loop in
-    is-whole _ (sym (l .inv .1) ∙ ap isSome (turn-end _ (l .at) (h .0)))
+    is-whole _ _ (sym (l .inv .1) ∙ ap isSome (turn-end _ _ (l .at) (h .0)))
 
 pub whole-spec : {M : Type 1} → statement M
 whole-spec =

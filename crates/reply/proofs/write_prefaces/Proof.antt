@@ -128,8 +128,8 @@ write-opening-requires c κs =
     let s = c .before .before .before .before .before in
     let a = c .before .before .before .any-read .ensures in
     let n = c .before .read-octets .ensures .0 in (
-      λ b. omega (arith, n, read-small _ (s .args .t) (s .pre .1) (sym a ∙ b)),
-      few-values _ (s .args .t) (s .pre .1),
+      λ b. omega (arith, n, read-small _ _ (s .args .t) (s .pre .1 .1) (sym a ∙ b)),
+      few-values _ _ (s .args .t) (s .pre .1 .1),
       omega (arith, within s Values, ap length (preface-values (s .args .t) _ _ a n)),
     )
 
@@ -147,7 +147,7 @@ write-second-count-requires : tie.Need-write-second-count-requires
 write-second-count-requires c κs =
     let w = c .before .before .before .before in
     let s = start₁ w in (
-      few-readErrors _ (s .args .t) (s .pre .1),
+      few-readErrors _ _ (s .args .t) (s .pre .1 .1),
       omega (arith, within s ReadErrors, second-at w, same₁ w, ap length (preface-readErrors (s .args .t) _ (w .before .before .before .before .any-read .ensures))),
     )
 
@@ -171,8 +171,8 @@ write-opening-requires-2 c κs =
     let s = start₂ w in
     let a = (first₂ w) .before .before .before .any-set .ensures in
     let n = c .before .set-octets .ensures .0 in (
-      λ b. omega (arith, n, set-small _ (s .args .t) (s .pre .1) (sym a ∙ b)),
-      few-updates _ (s .args .t) (s .pre .1),
+      λ b. omega (arith, n, set-small _ _ (s .args .t) (s .pre .1 .1) (sym a ∙ b)),
+      few-updates _ _ (s .args .t) (s .pre .1 .1),
       omega (arith, within s Updates, third-at w, same₂ w, ap length (preface-updates (s .args .t) _ _ a n)),
     )
 
@@ -191,7 +191,7 @@ write-second-count-requires-2 : tie.Need-write-second-count-requires-2
 write-second-count-requires-2 c κs =
     let w = c .before .before .before .before in
     let s = start₃ w in (
-      few-updateErrors _ (s .args .t) (s .pre .1),
+      few-updateErrors _ _ (s .args .t) (s .pre .1 .1),
       omega (arith, within s UpdateErrors, fourth-at w, same₃ w, ap length (preface-updateErrors (s .args .t) _ ((first₂ (before₃ w)) .before .before .before .any-set .ensures))),
     )
 
@@ -210,7 +210,7 @@ write-longs-requires : tie.Need-write-longs-requires
 write-longs-requires c κs =
     let w = c .before .before .before .before in
     let s = start₄ w in (
-      long-small _ (s .args .t) (s .pre .1),
+      long-small _ _ (s .args .t) (s .pre .1 .1),
       omega (arith, within s LongUpdates, fifth-at w, same₄ w, ap length (preface-longUpdates (s .args .t))),
     )
 

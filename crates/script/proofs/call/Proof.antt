@@ -5,10 +5,14 @@ use lib.ListN.{drop}
 use borrow.Author.Needs.{needs}
 use Rattle.meaning.specs.Octets.{at16}
 use Rattle.meaning.specs.FormB.{makeFresh, localValue, expiry}
+use Rattle.script.specs.Instructions.{profileAsked}
 use Rattle.script.proofs.Codes.{message-body, local-body, fresh-called, message-called, local-called, build-called, expiry-called, alone-gives}
 use Rattle.octets.proofs.Splices.{rest-is}
 use Rattle.script.proofs.call.Statement.{statement}
 use Rattle.script.proofs.call.Tie as tie
+
+profile-asked-requires : tie.Need-profile-asked-requires
+profile-asked-requires c κs = search needs
 
 make-fresh-requires : tie.Need-make-fresh-requires
 make-fresh-requires c κs = search needs
@@ -51,8 +55,10 @@ same-length c = search needs
 
 returns : tie.Need-returns
 returns c =
-    let a = c .before .before .before .before .before .before .before .before .args in
-    rw (fresh-called (a .body .now) (a .memory .now) (a .room .now) (c .before .before .before .before .match .keys1)) (alone-gives (makeFresh (a .memory .now)) (a .room .now) (c .before .before .make-fresh .ensures))
+    let p = c .before .before .before in
+    let a = p .before .before .before .before .before .before .args in
+    let g = rw (p .profile-asked .ensures) at (c .before .before .make-fresh .ensures) in
+    rw (fresh-called (a .body .now) (a .memory .now) (a .room .now) (p .before .before .match .keys1)) (alone-gives (makeFresh (a .memory .now) (profileAsked (a .body .now))) (a .room .now) g)
 
 same-length-2 : tie.Need-same-length-2
 same-length-2 c = search needs
@@ -101,6 +107,7 @@ pub call-spec : {M : Type 1} → statement M
 call-spec =
     tie.close
     (tie.spec
+    profile-asked-requires
     make-fresh-requires
     sub-message
     part-message-start

@@ -61,7 +61,7 @@ write-value-requires c κs =
     let z = k .before .before in
     let s = start z in
     rw (z .before .before .name-of .ensures)
-    (s .pre .0, rw (k .a .given .1) at (s .pre .3), small z, s .pre .4, value-fits _ _ _ (s .args .a) (s .args .c) _ (s .pre .5) (k .a .given .1))
+    (s .pre .0, rw (k .a .given .1) at (s .pre .3), small z, s .pre .4, value-fits _ _ _ _ (s .args .a) (s .args .c) _ (s .pre .5) (k .a .given .1))
 
 enum-known-a-2 : tie.Need-enum-known-a-2
 enum-known-a-2 c = search needs
@@ -71,7 +71,7 @@ write-failed-requires c κs =
     let k = c .before .before in
     let z = k .before .before in
     let s = start z in
-    rw (z .before .before .name-of .ensures) (readError-fits _ _ _ (s .args .a) (s .args .c) _ (s .pre .5) (k .a2 .given .1), small z)
+    rw (z .before .before .name-of .ensures) (readError-fits _ _ _ _ (s .args .a) (s .args .c) _ (s .pre .5) (k .a2 .given .1), small z)
 
 enum-told-2 : tie.Need-enum-told-2
 enum-told-2 c = search needs
@@ -99,7 +99,7 @@ write-short-requires c κs =
     let s = start z in
     let n : sizeOf (s .args .op) ≤ 255 = omega (arith, c .before .if1 .taken, z .size-of .ensures) in
     rw (sent-is z)
-    (rw (long z) (short-fits _ _ _ (s .args .a) (s .args .c) _ (s .pre .5) (v .before .enum-told2 .given .1) (lies z) n), omega (arith, small z, z .before .before .name-of .ensures), omega (arith, long z, n, lies z, s .pre .1))
+    (rw (long z) (short-fits _ _ _ _ (s .args .a) (s .args .c) _ (s .pre .5) (v .before .enum-told2 .given .1) (lies z) n), omega (arith, small z, z .before .before .name-of .ensures), omega (arith, long z, n, lies z, s .pre .1))
 
 same-length : tie.Need-same-length
 same-length c = search needs
@@ -109,7 +109,7 @@ returns c =
     let v = c .before .before .before .before .before in
     let z = v .before .before .before in
     let s = start z in
-    short-put (s .args .m .now) (s .args .list .now) (s .args .op) (s .args .a) (s .args .c) (s .args .out .now) _ _ (v .before .enum-told2 .given .1) (lies z) (omega (arith, c .before .before .before .before .if1 .taken, z .size-of .ensures))
+    short-put _ (s .args .m .now) (s .args .list .now) (s .args .op) (s .args .a) (s .args .c) (s .args .out .now) _ _ (v .before .enum-told2 .given .1) (lies z) (omega (arith, c .before .before .before .before .if1 .taken, z .size-of .ensures))
     (wrote-this (s .args .out .now) _ (ap₂ (λ (n : ℕ) (v : List ℕ). shortOctets (record { name = n; value = v })) (sym (z .before .before .name-of .ensures)) (sym (sent-is z))) (c .before .before .write-short .ensures))
 
 write-held-requires : tie.Need-write-held-requires
@@ -119,7 +119,7 @@ write-held-requires c κs =
     let s = start z in
     let n : 255 < sizeOf (s .args .op) = omega (arith, c .before .if1 .left, z .size-of .ensures) in
     rw (sent-is z)
-    (rw (long z) (long-fits _ _ _ (s .args .a) (s .args .c) _ (s .pre .5) (v .before .enum-told2 .given .1) (lies z) n), omega (arith, small z, z .before .before .name-of .ensures), omega (arith, long z, n, lies z, s .pre .1))
+    (rw (long z) (long-fits _ _ _ _ (s .args .a) (s .args .c) _ (s .pre .5) (v .before .enum-told2 .given .1) (lies z) n), omega (arith, small z, z .before .before .name-of .ensures), omega (arith, long z, n, lies z, s .pre .1))
 
 enum-known-a-3 : tie.Need-enum-known-a-3
 enum-known-a-3 c = search needs
@@ -129,7 +129,7 @@ write-failed-requires-2 c κs =
     let k = c .before .before in
     let z = k .before .before in
     let s = start z in
-    rw (z .before .before .name-of .ensures) (updateError-fits _ _ _ (s .args .a) (s .args .c) _ (s .pre .5) (k .a3 .given .1), small z)
+    rw (z .before .before .name-of .ensures) (updateError-fits _ _ _ _ (s .args .a) (s .args .c) _ (s .pre .5) (k .a3 .given .1), small z)
 
 enum-told-3 : tie.Need-enum-told-3
 enum-told-3 c = search needs
@@ -137,7 +137,7 @@ enum-told-3 c = search needs
 returns-2 : tie.Need-returns-2
 returns-2 c =
     let s = start (c .before .before) in
-    none-put (s .args .m .now) (s .args .list .now) (s .args .op) (s .args .a) (s .args .c) (s .args .out .now) (inl (c .enum-told .given .1))
+    none-put _ (s .args .m .now) (s .args .list .now) (s .args .op) (s .args .a) (s .args .c) (s .args .out .now) (inl (c .enum-told .given .1))
 
 same-length-2 : tie.Need-same-length-2
 same-length-2 c = search needs
@@ -147,7 +147,7 @@ returns-3 c =
     let k = c .before .before .before .before .before in
     let z = k .before .before in
     let s = start z in
-    value-put (s .args .m .now) (s .args .list .now) (s .args .op) (s .args .a) (s .args .c) (s .args .out .now) _ _ (k .a .given .1) (rw (z .before .before .name-of .ensures) at (c .before .before .write-value .ensures))
+    value-put _ (s .args .m .now) (s .args .list .now) (s .args .op) (s .args .a) (s .args .c) (s .args .out .now) _ _ (k .a .given .1) (rw (z .before .before .name-of .ensures) at (c .before .before .write-value .ensures))
 
 same-length-3 : tie.Need-same-length-3
 same-length-3 c = search needs
@@ -157,7 +157,7 @@ returns-4 c =
     let k = c .before .before .before .before .before in
     let z = k .before .before in
     let s = start z in
-    readError-put (s .args .m .now) (s .args .list .now) (s .args .op) (s .args .a) (s .args .c) (s .args .out .now) _ _ (k .a2 .given .1) (rw (z .before .before .name-of .ensures) at (c .before .before .write-failed .ensures))
+    readError-put _ (s .args .m .now) (s .args .list .now) (s .args .op) (s .args .a) (s .args .c) (s .args .out .now) _ _ (k .a2 .given .1) (rw (z .before .before .name-of .ensures) at (c .before .before .write-failed .ensures))
 
 same-length-4 : tie.Need-same-length-4
 same-length-4 c = search needs
@@ -167,7 +167,7 @@ returns-5 c =
     let v = c .before .before .before .before .before in
     let z = v .before .before .before in
     let s = start z in
-    long-put (s .args .m .now) (s .args .list .now) (s .args .op) (s .args .a) (s .args .c) (s .args .out .now) _ _ (v .before .enum-told2 .given .1) (lies z) (omega (arith, c .before .before .before .before .if1 .left, z .size-of .ensures))
+    long-put _ (s .args .m .now) (s .args .list .now) (s .args .op) (s .args .a) (s .args .c) (s .args .out .now) _ _ (v .before .enum-told2 .given .1) (lies z) (omega (arith, c .before .before .before .before .if1 .left, z .size-of .ensures))
     (wrote-this (s .args .out .now) _ (ap₂ (λ (n : ℕ) (v : List ℕ). heldOctets (record { name = n; value = v })) (sym (z .before .before .name-of .ensures)) (sym (sent-is z))) (c .before .before .write-held .ensures))
 
 same-length-5 : tie.Need-same-length-5
@@ -178,12 +178,12 @@ returns-6 c =
     let k = c .before .before .before .before .before in
     let z = k .before .before in
     let s = start z in
-    updateError-put (s .args .m .now) (s .args .list .now) (s .args .op) (s .args .a) (s .args .c) (s .args .out .now) _ _ (k .a3 .given .1) (rw (z .before .before .name-of .ensures) at (c .before .before .write-failed2 .ensures))
+    updateError-put _ (s .args .m .now) (s .args .list .now) (s .args .op) (s .args .a) (s .args .c) (s .args .out .now) _ _ (k .a3 .given .1) (rw (z .before .before .name-of .ensures) at (c .before .before .write-failed2 .ensures))
 
 returns-7 : tie.Need-returns-7
 returns-7 c =
     let s = start (c .before .before) in
-    none-put (s .args .m .now) (s .args .list .now) (s .args .op) (s .args .a) (s .args .c) (s .args .out .now) (inr (c .enum-told3 .given .1))
+    none-put _ (s .args .m .now) (s .args .list .now) (s .args .op) (s .args .a) (s .args .c) (s .args .out .now) (inr (c .enum-told3 .given .1))
 
 pub put-spec : {M : Type 1} → statement M
 put-spec =

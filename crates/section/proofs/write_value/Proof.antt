@@ -23,10 +23,10 @@ use Rattle.section.proofs.write_value.Statement.{statement}
 use Rattle.section.proofs.write_value.Tie as tie
 
 -- the value at the place that is asked for is what a read shows
-value-shown : (c : tie.After-body) → c .body .result .now ≡ shown (c .before .before .before .before .args .m .now) (c .before .before .before .before .args .k)
+value-shown : (c : tie.After-sent-body) → c .sent-body .result .now ≡ shown (c .before .before .before .before .args .profile) (c .before .before .before .before .args .m .now) (c .before .before .before .before .args .k)
 value-shown c =
     let a = c .before .before .before .before .args in
-    c .body .ensures ∙ sym (shown-value (a .m .now) (a .k) (c .before .if1 .taken))
+    c .sent-body .ensures ∙ sym (shown-value _ (a .m .now) (a .k) (c .before .if1 .taken))
 
 spelt : (m : List ℕ) {s : Sums} → s ≡ runningSums m → be16 (s .first) ++ be16 (s .second) ≡ sums (body m commit)
 unfolding sums runningSums
@@ -38,12 +38,12 @@ module _ (c : tie.After-running-sums) where
   start = c .before .before .before .before
 
   abbrev asked : List ℕ
-  asked = shown (start .args .m .now) (start .args .k)
+  asked = shown (start .args .profile) (start .args .m .now) (start .args .k)
 
   sums-shown : be16 (c .running-sums .result .first) ++ be16 (c .running-sums .result .second) ≡ asked
   sums-shown =
       let a = start .args in
-      spelt (a .m .now) (c .running-sums .ensures) ∙ sym (shown-sums (a .m .now) commit refl) ∙ ap (shown (a .m .now)) (sym (c .before .if1 .left))
+      spelt (a .m .now) (c .running-sums .ensures) ∙ sym (shown-sums _ (a .m .now) commit refl) ∙ ap (shown (a .profile) (a .m .now)) (sym (c .before .if1 .left))
 
   four-shown : length asked ≡ 4
   unfolding be16
@@ -64,14 +64,14 @@ module _ (c : tie.After-write-value-head) where
   unfolding be16
   behind-head = c .write-value-head .ensures .0
 
-body-requires : tie.Need-body-requires
-body-requires c κs = search needs
+sent-body-requires : tie.Need-sent-body-requires
+sent-body-requires c κs = search needs
 
 write-held-requires : tie.Need-write-held-requires
 write-held-requires c κs =
     let s = c .before .before .before .before .before in
     let e = value-shown (c .before) in
-    (omega (arith, ap length e, s .pre .4, held-length (record { name = s .args .name; value = shown (s .args .m .now) (s .args .k) })), s .pre .2, omega (arith, ap length e, shown-short (s .args .m .now) (s .args .k) (s .pre .1)))
+    (omega (arith, ap length e, s .pre .4, held-length (record { name = s .args .name; value = shown (s .args .profile) (s .args .m .now) (s .args .k) })), s .pre .2, omega (arith, ap length e, shown-short (s .args .profile) (s .args .m .now) (s .args .k) (s .pre .1)))
 
 same-length : tie.Need-same-length
 same-length c = search needs
@@ -131,7 +131,7 @@ pub write-value-spec : {M : Type 1} → statement M
 write-value-spec =
     tie.close
     (tie.spec
-    body-requires
+    sent-body-requires
     write-held-requires
     same-length
     returns

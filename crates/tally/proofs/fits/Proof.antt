@@ -7,7 +7,7 @@ use Rattle.tally.proofs.fits.Tie as tie
 
 returns : tie.Need-returns
 unfolding tallyFits every
-returns c = simp (c .before .before .before .before .pre, and-true)
+returns c = simp and-true
 
 pub fits-spec : {M : Type 1} → statement M
 fits-spec = tie.close (tie.spec returns)

@@ -4,6 +4,9 @@ use Rattle.tally.specs.Tallies.{replyLength}
 use Rattle.tally.proofs.reply_length.Statement.{statement}
 use Rattle.tally.proofs.reply_length.Tie as tie
 
+names-length-requires : tie.Need-names-length-requires
+names-length-requires c κs = search needs
+
 element-length-requires : tie.Need-element-length-requires
 element-length-requires c κs = search needs
 
@@ -40,6 +43,7 @@ returns c =
     let r = c .before .before .before in
     rw (
       r .before .before .before .element-length .ensures .0,
+      r .before .before .before .before .names-length .ensures .0,
       r .element-length2 .ensures .0,
       r .before .before .any-read .ensures,
       r .before .read-octets .ensures .0,
@@ -52,6 +56,7 @@ pub reply-length-spec : {M : Type 1} → statement M
 reply-length-spec =
     tie.close
     (tie.spec
+    names-length-requires
     element-length-requires
     any-read-requires
     read-octets-requires

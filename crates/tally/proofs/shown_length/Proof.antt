@@ -3,7 +3,6 @@ use native.Mathlib.Omega.{arith}
 use mathlib.Core.Path.{_≡_, sym, ap, _∙_}
 use lib.ListN.{length}
 use borrow.Author.Needs.{needs}
-use Rattle.meaning.specs.Memory.{body}
 use Rattle.meaning.specs.Step.{shown}
 use Rattle.command.proofs.Shown.{shown-commit, shown-value, shown-short}
 use Rattle.tally.proofs.shown_length.Statement.{statement}
@@ -12,17 +11,17 @@ use Rattle.tally.proofs.shown_length.Tie as tie
 returns : tie.Need-returns
 returns c =
     let a = c .before .before .args in
-    (sym (shown-commit (a .m .now) (a .k) (c .if1 .taken)), omega arith)
+    (sym (shown-commit _ (a .m .now) (a .k) (c .if1 .taken)), omega arith)
 
-body-requires : tie.Need-body-requires
-body-requires c κs = search needs
+sent-body-requires : tie.Need-sent-body-requires
+sent-body-requires c κs = search needs
 
 returns-2 : tie.Need-returns-2
 returns-2 c =
     let s = c .before .before .before in
     let m = s .args .m .now in
-    let e : length (c .body .result .now) ≡ length (shown m (s .args .k)) = ap length (c .body .ensures ∙ sym (shown-value m (s .args .k) (c .before .if1 .left))) in
-    (e, omega (arith, e, shown-short m (s .args .k) (s .pre .1)))
+    let e : length (c .sent-body .result .now) ≡ length (shown (s .args .profile) m (s .args .k)) = ap length (c .sent-body .ensures ∙ sym (shown-value _ m (s .args .k) (c .before .if1 .left))) in
+    (e, omega (arith, e, shown-short (s .args .profile) m (s .args .k) (s .pre .1)))
 
 pub shown-length-spec : {M : Type 1} → statement M
-shown-length-spec = tie.close (tie.spec returns body-requires returns-2)
+shown-length-spec = tie.close (tie.spec returns sent-body-requires returns-2)
