@@ -1,5 +1,5 @@
 -- Sound memory of a profile is sound in that profile again after each operation and each call (RULES 5.15, 24.10).
-use Prim.Native.Nat.{ℕ, zero, suc, _+_, _%_, _≤_}
+use Prim.Native.Nat.{ℕ, zero, suc, _+_, _%_, _≤_, _<_}
 use native.Mathlib.Omega.{arith}
 use native.Mathlib.Decide.{ℕ-discrete}
 use mathlib.Core.Path.{_≡_, refl, sym, ap, _∙_}
@@ -132,37 +132,33 @@ unlisted-place p n e r q =
     let h = and-right (ltb (place n) entryCount) _ e in
     false≢true (rw (r, sym q) at h)
 
-subscribe-bounded : (p : ℕ) (m : List ℕ) (n : ℕ) → soundIn p m ≡ true → bounded p (subscribeMemory p m n) ≡ true
-subscribe-bounded p m n s = go (listed p n) refl
+-- the marks of a listed name change, or nothing does
+marks-bounded : (p : ℕ) (m m′ : List ℕ) (n : ℕ) → soundIn p m ≡ true
+    → (listed p n ≡ true → ((k : ℕ) → k < entryCount → body m′ k ≡ body m k) × (supportedListMax ≢ place n → subscribed m′ supportedListMax ≡ subscribed m supportedListMax))
+    → (listed p n ≡ false → m′ ≡ m) → bounded p m′ ≡ true
+marks-bounded p m m′ n s f g = go (listed p n) refl
   where
-    go : (b : Bool) → listed p n ≡ b → bounded p (subscribeMemory p m n) ≡ true
+    go : (b : Bool) → listed p n ≡ b → bounded p m′ ≡ true
     go true e =
-        let h = subscribe-leaves p m n (in-sound p m s) e in
-        within-bounds p _
+        within-bounds p m′
         (λ r.
         let b = bounds p m (in-bounded p m s) r in
         record {
-          list = rw (h .values adminControlList (omega arith)) (b .list);
-          runs = rw (h .values commit (omega arith)) (b .runs);
-          unmarked = subscribe-others p m n (in-sound p m s) e supportedListMax (unlisted-place p n e r) .subscription ∙ b .unmarked;
+          list = rw (f e .0 adminControlList (omega arith)) (b .list);
+          runs = rw (f e .0 commit (omega arith)) (b .runs);
+          unmarked = f e .1 (unlisted-place p n e r) ∙ b .unmarked;
         })
-    go false e = rw (unlisted-nothing p m n e .0) (in-bounded p m s)
+    go false e = rw (g e) (in-bounded p m s)
+
+subscribe-bounded : (p : ℕ) (m : List ℕ) (n : ℕ) → soundIn p m ≡ true → bounded p (subscribeMemory p m n) ≡ true
+subscribe-bounded p m n s =
+    let h = in-sound p m s in
+    marks-bounded p m _ n s (λ e. (subscribe-leaves p m n h e .values, λ ne. subscribe-others p m n h e supportedListMax ne .subscription)) (λ e. unlisted-nothing p m n e .0)
 
 unsubscribe-bounded : (p : ℕ) (m : List ℕ) (n : ℕ) → soundIn p m ≡ true → bounded p (unsubscribeMemory p m n) ≡ true
-unsubscribe-bounded p m n s = go (listed p n) refl
-  where
-    go : (b : Bool) → listed p n ≡ b → bounded p (unsubscribeMemory p m n) ≡ true
-    go true e =
-        let h = unsubscribe-leaves p m n (in-sound p m s) e in
-        within-bounds p _
-        (λ r.
-        let b = bounds p m (in-bounded p m s) r in
-        record {
-          list = rw (h .values adminControlList (omega arith)) (b .list);
-          runs = rw (h .values commit (omega arith)) (b .runs);
-          unmarked = unsubscribe-others p m n (in-sound p m s) e supportedListMax (unlisted-place p n e r) .subscription ∙ b .unmarked;
-        })
-    go false e = rw (unlisted-nothing p m n e .1) (in-bounded p m s)
+unsubscribe-bounded p m n s =
+    let h = in-sound p m s in
+    marks-bounded p m _ n s (λ e. (unsubscribe-leaves p m n h e .values, λ ne. unsubscribe-others p m n h e supportedListMax ne .subscription)) (λ e. unlisted-nothing p m n e .1)
 
 -- ---- every operation, and every list of them
 

@@ -1,18 +1,12 @@
 -- `memory::sent_body` meets its contract.
-use Prim.Native.Nat.{ℕ, _-_}
-use native.Mathlib.Omega.{arith}
-use mathlib.Core.Path.{_≡_, sym, ap₂, _∙_}
-use mathlib.Core.List.{List}
-use lib.ListN.{length, take, drop, length-drop, drop-of-length-le}
-use lib.Seq.{take-all, drop-length}
+use mathlib.Core.Path.{sym, ap₂, _∙_}
+use lib.ListN.{length, drop, drop-of-length-le}
+use lib.Seq.{drop-length}
 use borrow.Author.Needs.{needs}
 use Rattle.meaning.specs.Profile.{onWire}
+use Rattle.octets.proofs.Splices.{rest-is}
 use Rattle.memory.proofs.sent_body.Statement.{statement}
 use Rattle.memory.proofs.sent_body.Tie as tie
-
--- all from a place on
-rest : (v : List ℕ) (n : ℕ) → take (length v - n) (drop n v) ≡ drop n v
-rest v n = take-all (length v - n) (drop n v) (omega (arith, length-drop n v))
 
 body-requires : tie.Need-body-requires
 body-requires c κs = search needs
@@ -42,13 +36,13 @@ returns : tie.Need-returns
 unfolding onWire
 returns c =
     let v = c .before .before .before .body .result .now in
-    rest v (c .before .before .spared .result) ∙ ap₂ drop (c .before .before .spared .ensures .0) (c .before .before .before .body .ensures)
+    rest-is v (c .before .before .spared .result) ∙ ap₂ drop (c .before .before .spared .ensures .0) (c .before .before .before .body .ensures)
 
 returns-2 : tie.Need-returns-2
 unfolding onWire
 returns-2 c =
     let v = c .before .before .before .body .result .now in
-    rest v (length v) ∙ drop-length v ∙ sym (drop-of-length-le v (c .before .if1 .left))
+    rest-is v (length v) ∙ drop-length v ∙ sym (drop-of-length-le v (c .before .if1 .left))
     ∙ ap₂ drop (c .before .before .spared .ensures .0) (c .before .before .before .body .ensures)
 
 pub sent-body-spec : {M : Type 1} → statement M

@@ -73,7 +73,10 @@ fn told(host: &str) -> Vec<(String, u64)> {
         let names = names.split("`, `").map(String::from);
         names.zip(numbers.split(", ").map(|n| n.replace(',', "")))
     });
-    let constant = |name: &str| name.chars().all(|c| c.is_ascii_uppercase() || c == '_');
+    let constant = |name: &str| {
+        name.chars()
+            .all(|c| c.is_ascii_uppercase() || c.is_ascii_digit() || c == '_')
+    };
     pairs
         .filter(|(name, _)| constant(name))
         .map(|(name, number)| (name, number.parse().unwrap()))
@@ -89,18 +92,17 @@ fn a_host_is_told_the_numbers_of_the_code() {
     let cell = behind + table["CELL_LENGTH"] * table["COMMIT"];
     let mut known = constants(&text("crates/wire/src/lib.rt"));
     known.insert("MEMORY_LENGTH".into(), table["FORM_LENGTH"]);
+    known.insert("PROFILE_AT".into(), table["PROFILE_AT"]);
     known.insert("RUNNING_FLAGS_AT".into(), cell + table["FLAGS_AT"]);
     known.insert("RUNNING_LENGTH_AT".into(), cell + table["SIZE_AT"]);
     known.insert("RUNNING_AT".into(), behind + table["RUNNING_AT"]);
     let told = told(&text("docs/HOST.md"));
     let code = text("crates/endpoint/src/lib.rt");
     let offered = code.lines().filter(|line| line.starts_with("pub const "));
-    assert_eq!((told.len(), offered.count()), (8, 8));
+    assert_eq!((told.len(), offered.count()), (11, 11));
     for (name, number) in &told {
         assert_eq!(known.get(name), Some(number), "{name}");
-        assert!(
-            code.contains(&format!("pub const {name}: usize = ")),
-            "{name}"
-        );
+        let offers = |kind| code.contains(&format!("pub const {name}: {kind} = "));
+        assert!(offers("usize") || offers("u8"), "{name}");
     }
 }
