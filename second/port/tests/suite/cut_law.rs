@@ -41,7 +41,7 @@ fn random_operation(chance: &mut Chance) -> Vec<u8> {
 }
 
 /// Operations one by one: random ones, with whole schedules in between.
-fn random_operations(chance: &mut Chance) -> Vec<Vec<u8>> {
+pub fn random_operations(chance: &mut Chance) -> Vec<Vec<u8>> {
     let mut operations = Vec::new();
     for _ in 0..=chance.below(24) {
         if chance.below(8) == 0 {
@@ -78,7 +78,7 @@ fn starts() -> [Bench; 4] {
 }
 
 /// Memory of profile 03: fresh, with a schedule that runs, and as above.
-fn starts_of_release_16() -> [Bench; 4] {
+pub fn starts_of_release_16() -> [Bench; 4] {
     let mut committed = Bench::fresh();
     committed.done(&sets(&schedule(36, 5, [1, 1_000])));
     [Bench::fresh(), committed, full(), waiting()].map(|bench| bench.with_profile(3))

@@ -1,5 +1,6 @@
 //! All tests of the port, in one program.
 
+mod alike;
 mod captures;
 mod cut_law;
 mod examples;
