@@ -8,6 +8,8 @@ use mathlib.Core.Option.{Option, none, some}
 use lib.ListN.{length, drop, length-drop}
 use Rattle.meaning.specs.Operation.{Next, bad, got, shape, shaped, follow, more, parse, isSome, orNone, broken, inMessage, breakOf}
 use Rattle.meaning.specs.Operation as operation
+use Rattle.meaning.specs.Profile.{isRelease16, hasCode}
+use Rattle.meaning.proofs.Profiles.{every-code, no-code, shape-none, shape-has}
 use Rattle.meaning.proofs.Encode.{firstOf, parse-step, parse-nil}
 use Rattle.meaning.proofs.Breaks.{broken-got, broken-bad}
 use Rattle.operation.specs.declared.Op.{Op}
@@ -190,3 +192,21 @@ inside-within n k (SelectiveRead name from size) l h = (h .0, omega (arith, h .1
 inside-within n k (SelectiveSubscribe name from size) l h = (h .0, omega (arith, h .1, l))
 inside-within n k (SelectiveUnsubscribe name from size) l h = (h .0, omega (arith, h .1, l))
 inside-within n k (DeleteEntry name from size) l h = (h .0, omega (arith, h .1, l))
+
+-- ---- a list that is whole
+
+-- every code in it is one that its profile has, so a profile that has every code hands out the same
+whole-first : (p q : ℕ) (s : List ℕ) → isRelease16 q ≡ false → isSome (parse p s) ≡ true → first q s ≡ first p s
+unfolding first
+whole-first p q [] h w = refl
+whole-first p q (c ∷ s) h w = go (hasCode p c) refl
+  where
+    go : (b : Bool) → hasCode p c ≡ b → found (shaped (shape q c) s) ≡ found (shaped (shape p c) s)
+    go true e = rw (shape-has q c (every-code q c h), shape-has p c e)
+    go false e =
+        let n = no-code p c e in
+        let none-parsed : parse p (c ∷ s) ≡ none = parse-step p c s ∙ (rw (shape-none p c (n .0) (n .1)) (unfold shaped follow in refl)) in
+        absurd (false≢true (rw none-parsed at w))
+
+pub hands-whole : (p q : ℕ) (s : List ℕ) (at : ℕ) (r : Handed) → isRelease16 q ≡ false → isSome (parse p (drop at s)) ≡ true → HandsOut q s at r → HandsOut p s at r
+hands-whole p q s at r h w e = (e .0 ∙ whole-first p q (drop at s) h w, e .1)

@@ -161,7 +161,8 @@ pub fn write(list: &[u8], starts: Places, copy: &mut [u8], out: &mut [u8], profi
     let mut known = RunningSums::Unknown;
     let mut from: usize = 0;
     loop {
-        let h = operation::hand_out(list, from, profile);
+        // Every code there is, as in `tally::take`.
+        let h = operation::hand_out(list, from, wire::RELEASE_18);
         let Handed::Operation(op, next) = h else {
             return;
         };

@@ -126,7 +126,8 @@ pub fn take(m: &[u8], list: &[u8], copy: &mut [u8], profile: u8) -> Taken
     let mut changed = false;
     let mut at: usize = 0;
     loop {
-        let h = operation::hand_out(list, at, profile);
+        // Each code of a whole list is one that its profile has, so none is asked for: what reads it stays small enough to be inlined.
+        let h = operation::hand_out(list, at, wire::RELEASE_18);
         let Handed::Operation(op, next) = h else {
             return Taken { tally: t, changed };
         };

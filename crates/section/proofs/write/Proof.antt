@@ -4,8 +4,9 @@ use native.Mathlib.Omega.{arith}
 use mathlib.Core.Path.{refl, sym, _∙_}
 use lib.ListN.{length}
 use borrow.Author.Needs.{needs}
+use Rattle.meaning.specs.Profile.{release18, isRelease16}
 use Rattle.operation.specs.Handing.{Inside}
-use Rattle.operation.proofs.Turns.{HandsOut}
+use Rattle.operation.proofs.Turns.{HandsOut, hands-whole}
 use Rattle.operation.proofs.Hands.{hands-out}
 use Rattle.command.proofs.Sets.{long-of}
 use Rattle.command.proofs.Told.{told-back}
@@ -24,7 +25,10 @@ abbrev μ-loop : tie.MeasureT-loop
 
 -- what the list hands out at the position
 hands : (c : tie.After-hand-out Inv-loop μ-loop) → HandsOut (c .before .before .before .before .before .args .profile) (c .before .before .before .before .before .args .list .now) (c .before .loop .from) (c .hand-out .result)
-hands c = hands-out _ _ (λ i. omega (arith, c .before .before .before .before .shared-slice-known .given i)) _ _ (c .hand-out .ensures)
+unfolding isRelease16
+hands c =
+    hands-whole _ release18 _ _ _ refl (c .before .loop .inv .under .whole)
+    (hands-out _ _ (λ i. omega (arith, c .before .before .before .before .shared-slice-known .given i)) _ _ (c .hand-out .ensures))
 
 -- the position after the operation
 ahead : (c : tie.After-h Inv-loop μ-loop)

@@ -1,12 +1,13 @@
 -- `tally::take` meets its contract.
 use Prim.Native.Nat.{_-_, _*_, _≤_, _<_}
 use native.Mathlib.Omega.{arith}
-use mathlib.Core.Path.{sym, _∙_}
+use mathlib.Core.Path.{refl, sym, _∙_}
 use mathlib.Core.Bool.{false≢true}
 use lib.ListN.{length}
 use borrow.Author.Needs.{needs}
+use Rattle.meaning.specs.Profile.{release18, isRelease16}
 use Rattle.operation.specs.Handing.{Inside}
-use Rattle.operation.proofs.Turns.{HandsOut, inside-within}
+use Rattle.operation.proofs.Turns.{HandsOut, inside-within, hands-whole}
 use Rattle.operation.proofs.Hands.{hands-out}
 use Rattle.command.proofs.Sets.{long-of}
 use Rattle.command.proofs.Told.{told-back}
@@ -25,7 +26,10 @@ abbrev μ-loop : tie.MeasureT-loop
 -- what the list hands out at the position
 hands : (c : tie.After-hand-out Inv-loop μ-loop)
     → HandsOut (c .before .before .before .before .before .before .before .before .before .args .profile) (c .before .before .before .before .before .before .before .before .before .args .list .now) (c .before .loop .at) (c .hand-out .result)
-hands c = hands-out _ _ (λ i. omega (arith, c .before .before .before .before .before .before .before .shared-slice-known2 .given i)) _ _ (c .hand-out .ensures)
+unfolding isRelease16
+hands c =
+    hands-whole _ release18 _ _ _ refl (c .before .loop .inv .under .whole)
+    (hands-out _ _ (λ i. omega (arith, c .before .before .before .before .before .before .before .shared-slice-known2 .given i)) _ _ (c .hand-out .ensures))
 
 -- the position after the operation
 ahead : (c : tie.After-h Inv-loop μ-loop)
