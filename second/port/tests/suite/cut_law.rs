@@ -93,6 +93,25 @@ fn of_release_16(operation: &[u8]) -> Option<Vec<u8>> {
     }
 }
 
+/// Sends a command as one and cut at random, both from one start: its reply, if it is carried out.
+fn cut_at_random(chance: &mut Chance, start: &Bench, operations: &[Vec<u8>]) -> Option<Reply> {
+    let mut whole = start.clone();
+    let (number, reply) = whole.send(&command(&operations.concat()));
+    if number != 0 {
+        assert!([3, 7].contains(&number));
+        return None;
+    }
+    let reply = Reply::parse(&reply);
+    let mut parts = start.clone();
+    let mut joined = Reply::default();
+    for part in random_cuts(chance, operations) {
+        joined.join(Reply::parse(&parts.done(&part)));
+    }
+    assert_eq!(reply, joined);
+    assert!(whole.lent() == parts.lent() && whole.is_sound());
+    Some(reply)
+}
+
 #[test]
 fn random_commands_of_release_16_in_random_cuts() {
     let mut chance = Chance::new(4);
@@ -105,25 +124,14 @@ fn random_commands_of_release_16_in_random_cuts() {
             continue;
         }
         let start = &starts[chance.below(starts.len())];
-        let mut whole = start.clone();
-        let (number, reply) = whole.send(&command(&operations.concat()));
-        if number != 0 {
-            assert!([3, 7].contains(&number));
+        let Some(reply) = cut_at_random(&mut chance, start, &operations) else {
             continue;
-        }
-        let whole_reply = Reply::parse(&reply);
-        let mut parts = start.clone();
-        let mut joined = Reply::default();
-        for part in random_cuts(&mut chance, &operations) {
-            joined.join(Reply::parse(&parts.done(&part)));
-        }
-        assert_eq!(whole_reply, joined);
-        assert!(whole.lent() == parts.lent() && whole.is_sound());
-        assert!(whole_reply.long_updates.is_empty());
+        };
+        assert!(reply.long_updates.is_empty());
         carried_out += 1;
-        let updates = whole_reply.updates.iter();
+        let updates = reply.updates.iter();
         commits += updates.filter(|(name, _)| *name == 0x8001).count();
-        let errors = whole_reply.update_errors.iter();
+        let errors = reply.update_errors.iter();
         too_long += errors.filter(|error| **error == (0x0006, 0x6F)).count();
     }
     assert!(carried_out > 8_000, "{carried_out} were carried out");
@@ -140,31 +148,19 @@ fn random_commands_in_random_cuts() {
     for _ in 0..12_000 {
         let operations = random_operations(&mut chance);
         let start = &starts[chance.below(starts.len())];
-        let mut whole = start.clone();
-        let (number, reply) = whole.send(&command(&operations.concat()));
-        if number != 0 {
-            assert!([3, 7].contains(&number));
+        let Some(reply) = cut_at_random(&mut chance, start, &operations) else {
             continue;
-        }
-        let whole_reply = Reply::parse(&reply);
-        let mut parts = start.clone();
-        let mut joined = Reply::default();
-        for part in random_cuts(&mut chance, &operations) {
-            joined.join(Reply::parse(&parts.done(&part)));
-        }
-        assert_eq!(whole_reply, joined);
-        assert!(whole.memory == parts.memory);
-        assert!(whole.is_sound());
+        };
         carried_out += 1;
-        commits += whole_reply
+        commits += reply
             .updates
             .iter()
             .filter(|(name, _)| *name == 0x8001)
             .count();
-        long += whole_reply.long_updates.len();
+        long += reply.long_updates.len();
         let fail = |error: &&(u16, u8)| error.1 == 0x6F;
-        selective += whole_reply.read_errors.iter().filter(fail).count();
-        deletes += whole_reply.update_errors.iter().filter(fail).count();
+        selective += reply.read_errors.iter().filter(fail).count();
+        deletes += reply.update_errors.iter().filter(fail).count();
     }
     assert!(
         carried_out > 8_000,
@@ -189,12 +185,12 @@ fn every_single_cut_of_one_long_command() {
     }
     for start in starts() {
         let mut whole = start.clone();
-        let whole_reply = Reply::parse(&whole.done(&operations.concat()));
+        let reply = Reply::parse(&whole.done(&operations.concat()));
         for cut in 1..operations.len() {
             let mut parts = start.clone();
             let mut joined = Reply::parse(&parts.done(&operations[..cut].concat()));
             joined.join(Reply::parse(&parts.done(&operations[cut..].concat())));
-            assert_eq!(whole_reply, joined);
+            assert_eq!(reply, joined);
             assert!(whole.memory == parts.memory);
         }
     }
