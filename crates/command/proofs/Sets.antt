@@ -121,8 +121,8 @@ pub not-spared : (p k : ℕ) (v : List ℕ) → spared p k ≡ 0 → v ≡ inMem
 unfolding inMemory
 not-spared p k v e = rw e
 
--- else two octets 0 come ahead, and its room has four octets
-spared-two : (p k : ℕ) → spared p k ≢ 0 → (spared p k ≡ 2) × (k ≡ adminControlListLength)
+-- else it is that of AdminControlListLength: two octets 0 come ahead, and its room has four octets
+pub spared-two : (p k : ℕ) → spared p k ≢ 0 → (spared p k ≡ 2) × (k ≡ adminControlListLength)
 unfolding spared
 spared-two p k ne = go (isRelease16 p && eqb k adminControlListLength) refl
   where

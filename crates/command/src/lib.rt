@@ -76,7 +76,8 @@ fn put_row(m: &mut [u8], k: usize, v: &[u8]) -> bool
 }
 
 // A value from the wire put at a place, where its row or, for 8001, a commit's conditions permit it. Only one value has octets
-// spared, and with them it has four: fewer than two or more would not fill its room (RULES 24.4).
+// spared, and with them it has four: fewer than two or more would not fill its room (RULES 24.4). Its place is said by name and
+// not as `k`: storing four octets at a known place is short, so that the compiler inlines it here and the other for itself.
 fn put_value(m: &mut [u8], k: usize, v: &[u8], profile: u8) -> bool
     requires { ⌜ (sound (now m) ≡ true) × (k < entryCount) ⌝ }
     ensures { λ r. ⌜ (r ≡ permitted profile (now (m .entry)) k (now (v .entry))) × (now (m .exit) ≡ cond (permitted profile (now (m .entry)) k (now (v .entry))) (store (now (m .entry)) k (stored profile (now (m .entry)) k (now (v .entry)))) (now (m .entry))) ⌝ }
@@ -91,14 +92,14 @@ fn put_value(m: &mut [u8], k: usize, v: &[u8], profile: u8) -> bool
         return false;
     }
     let full = [0, 0, v[0], v[1]];
-    put_row(m, k, &full)
+    put_row(m, table::ADMIN_CONTROL_LIST_LENGTH, &full)
 }
 
 // Whether a set of so many octets has a record in its reply (RULES 24.6).
 fn sendable(v: &[u8], profile: u8) -> bool
     ensures { λ r. ⌜ r ≡ sendable profile (now (v .entry)) ⌝ }
 {
-    !(profile == wire::RELEASE_16) | (v.len() <= wire::SHORT_MOST)
+    (profile != wire::RELEASE_16) | (v.len() <= wire::SHORT_MOST)
 }
 
 // What stands for a cause where a set succeeds.

@@ -1,7 +1,9 @@
 -- `command::put_value` meets its contract.
 use mathlib.Core.Path.{refl, sym, _∙_}
+use mathlib.Core.Logic.{_≢_}
 use borrow.Author.Needs.{needs}
-use Rattle.command.proofs.Sets.{permitted-commit, permitted-row, not-spared, two-spared, spared-unfit}
+use Rattle.meaning.specs.Profile.{spared}
+use Rattle.command.proofs.Sets.{permitted-commit, permitted-row, not-spared, spared-two, two-spared, spared-unfit}
 use Rattle.command.proofs.put_value.Statement.{statement}
 use Rattle.command.proofs.put_value.Tie as tie
 
@@ -34,11 +36,15 @@ returns-2 c =
     let e = permitted-row (a .profile) (a .m .now) (a .v .now) (a .v .now) (a .k) (k .before .before .if1 .left) q in
     rw (e .0, e .1) (c .before .before .put-row .ensures)
 
+-- octets of the value are spared
+some-spared : (c : tie.Else2) → spared (c .before .before .before .before .before .args .profile) (c .before .before .before .before .before .args .k) ≢ 0
+some-spared c e = c .if2 .left (c .before .spared .ensures .0 ∙ e)
+
 returns-3 : tie.Need-returns-3
 returns-3 c =
     let k = c .before in
-    let a = c .before .before .before .before .before .before .args in
-    rw (spared-unfit (a .profile) (a .m .now) (a .v .now) (a .k) (k .before .before .if1 .left) (λ e. k .if2 .left (k .before .spared .ensures .0 ∙ e)) (c .if3 .taken)) (refl, refl)
+    let a = k .before .before .before .before .before .args in
+    rw (spared-unfit (a .profile) (a .m .now) (a .v .now) (a .k) (k .before .before .if1 .left) (some-spared k) (c .if3 .taken)) (refl, refl)
 
 shared-slice-read-t13 : tie.Need-shared-slice-read-t13
 shared-slice-read-t13 c = search needs
@@ -60,9 +66,9 @@ returns-4 c =
     let t = c .before .before .before .before .before .before .before in
     let k = t .before in
     let a = k .before .before .before .before .before .args in
-    let q = two-spared (a .profile) (a .k) (a .v .now) (λ e. k .if2 .left (k .before .spared .ensures .0 ∙ e)) (t .if3 .left) in
+    let q = two-spared (a .profile) (a .k) (a .v .now) (some-spared k) (t .if3 .left) in
     let e = permitted-row (a .profile) (a .m .now) (a .v .now) _ (a .k) (k .before .before .if1 .left) q in
-    rw (e .0, e .1) (c .before .before .put-row2 .ensures)
+    rw (e .0, e .1, spared-two (a .profile) (a .k) (some-spared k) .1) (c .before .before .put-row2 .ensures)
 
 pub put-value-spec : {M : Type 1} → statement M
 put-value-spec =
