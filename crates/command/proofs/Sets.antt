@@ -1,21 +1,22 @@
 -- What a set and a read find: lengths of values that sound memory holds, a commit's conditions, causes by the first check that fails.
-use Prim.Native.Nat.{ℕ, zero, suc, _-_, _≤_, _<_}
+use Prim.Native.Nat.{ℕ, zero, suc, _+_, _≤_, _<_}
 use native.Mathlib.Omega.{arith}
 use mathlib.Core.Path.{_≡_, refl, sym, ap, _∙_}
 use mathlib.Core.Logic.{_≢_}
 use mathlib.Core.Bool.{Bool, true, false, _&&_, cond, and-true, and-false}
 use mathlib.Core.List.{List, [], _∷_}
 use lib.ListN.{length}
-use lib.Dec.{eqb}
-use borrow.Author.Tests.{ltb-true, eqb-true, ne-eqb}
-use Rattle.meaning.specs.Octets.{octet, same, every}
+use lib.Dec.{eqb, ltb}
+use borrow.Author.Tests.{ltb-true, eqb-true, ne-eqb, le-leb, lt-leb}
+use Rattle.meaning.specs.Octets.{octet, part, same, every, implies}
 use Rattle.meaning.specs.Checks.{firstFailed, whenPassed}
 use Rattle.meaning.specs.Table.{rows, rowAt, place, byController, entryCount, memoryLength, adminBaseTime, adminControlListLength, adminControlList, adminCycleTime, commit}
 use Rattle.meaning.specs.Block.{permits, keeps, joinedBlock, formAndFit, sums}
 use Rattle.meaning.specs.Memory.{present, body, pending, inFlight, store, setMarks, fourPresent, sound}
-use Rattle.meaning.specs.Profile.{isRelease16, lists, listed, spared, inMemory, sendable, causeAbsent}
+use Rattle.meaning.specs.Profile.{release18, release16, isRelease16, lists, listed, spared, inMemory, sendable, causeAbsent}
 use Rattle.meaning.specs.Step.{block, commits, permitted, setChecks, stored, setMemory, subscribeMemory, unsubscribeMemory, setAnswer, readChecks, readAnswer, value, readError, update, updateError, shown}
 use Rattle.meaning.proofs.Tests.{and-left, and-right, not-true}
+use Rattle.meaning.proofs.Lists.{part-octet, length-part}
 use Rattle.meaning.proofs.Values.{permits-opened}
 use Rattle.meaning.proofs.Profiles.{memory-length, absent-fails}
 use Rattle.meaning.proofs.Sound.{opened, entry-of, four-at}
@@ -122,7 +123,7 @@ unfolding inMemory
 not-spared p k v e = rw e
 
 -- else it is that of AdminControlListLength: two octets 0 come ahead, and its room has four octets
-pub spared-two : (p k : ℕ) → spared p k ≢ 0 → (spared p k ≡ 2) × (k ≡ adminControlListLength)
+spared-two : (p k : ℕ) → spared p k ≢ 0 → (spared p k ≡ 2) × (k ≡ adminControlListLength)
 unfolding spared
 spared-two p k ne = go (isRelease16 p && eqb k adminControlListLength) refl
   where
@@ -130,7 +131,7 @@ spared-two p k ne = go (isRelease16 p && eqb k adminControlListLength) refl
     go true e = (rw e, eqb-true k adminControlListLength (and-right (isRelease16 p) _ e))
     go false e = absurd (ne (rw e))
 
-pub two-spared : (p k : ℕ) (v : List ℕ) → spared p k ≢ 0 → length v ≡ 2 → 0 ∷ 0 ∷ octet v 0 ∷ octet v 1 ∷ [] ≡ inMemory p k v
+two-spared : (p k : ℕ) (v : List ℕ) → spared p k ≢ 0 → length v ≡ 2 → 0 ∷ 0 ∷ octet v 0 ∷ octet v 1 ∷ [] ≡ inMemory p k v
 unfolding inMemory
 two-spared p k v ne h = rw (spared-two p k ne .0) (ap (λ (l : List ℕ). 0 ∷ 0 ∷ l) (go v h))
   where
@@ -139,6 +140,20 @@ two-spared p k v ne h = rw (spared-two p k ne .0) (ap (λ (l : List ℕ). 0 ∷ 
     go (x ∷ []) h = absurd (omega (arith, h))
     go (x ∷ y ∷ []) h = refl
     go (x ∷ y ∷ z ∷ v) h = absurd (omega (arith, h))
+
+-- two octets of a list are so lengthened
+pub pair-spared : (p k : ℕ) (s : List ℕ) (i n : ℕ) → spared p k ≢ 0 → n ≡ 2 → i + n ≤ length s → part (0 ∷ 0 ∷ octet s i ∷ octet s (i + 1) ∷ []) 0 4 ≡ inMemory p k (part s i n)
+unfolding part
+pair-spared p k s i n ne two h = rw two (all 0 0 (octet s i) (octet s (i + 1)) ∙ pair)
+  where
+    all : (a b c d : ℕ) → part (a ∷ b ∷ c ∷ d ∷ []) 0 4 ≡ a ∷ b ∷ c ∷ d ∷ []
+    all a b c d = refl
+
+    first : octet (part s i 2) 0 ≡ octet s i
+    first = part-octet s i 2 0 (omega arith) ∙ ap (octet s) (omega arith)
+
+    pair : 0 ∷ 0 ∷ octet s i ∷ octet s (i + 1) ∷ [] ≡ inMemory p k (part s i 2)
+    pair = rw (part-octet s i 2 1 (omega arith), first) at (two-spared p k (part s i 2) ne (length-part s i 2 (omega (arith, h, two))))
 
 pub spared-unfit : (p : ℕ) (m v : List ℕ) (k : ℕ) → k ≢ commit → spared p k ≢ 0 → length v ≢ 2 → permitted p m k v ≡ false
 unfolding rowAt rows
@@ -165,7 +180,7 @@ module _ (p : ℕ) (m : List ℕ) (n k : ℕ) (v : List ℕ) (e : k ≡ place n)
   unfolding setMemory setChecks firstFailed whenPassed listed
   set-foreign o = rw (← e, h, o) (refl, refl)
 
-  pub set-too-long : byController (rowAt k .owner) ≡ true → sendable p v ≡ false → Set p m n v 0x6F m
+  set-too-long : byController (rowAt k .owner) ≡ true → sendable p v ≡ false → Set p m n v 0x6F m
   unfolding setMemory setChecks firstFailed whenPassed listed
   set-too-long o l = rw (← e, h, o, l) (refl, refl)
 
@@ -178,6 +193,71 @@ module _ (p : ℕ) (m : List ℕ) (n k : ℕ) (v : List ℕ) (e : k ≡ place n)
     pub set-done : t ≡ true → Set p m n v 0 after
     unfolding setMemory setChecks firstFailed whenPassed listed
     set-done f = rw (q, ← e, h, o, l, sym y ∙ f) (refl, refl)
+
+-- ---- a set by its profile
+
+-- a record of Release 16 has at most 255 octets of a value
+pub long-unsendable : (v : List ℕ) → 255 < length v → sendable release16 v ≡ false
+unfolding sendable implies isRelease16
+long-unsendable v h = lt-leb (length v) 255 h
+
+pub short-sendable : (v : List ℕ) → length v ≤ 255 → sendable release16 v ≡ true
+unfolding sendable implies isRelease16
+short-sendable v h = le-leb (length v) 255 h
+
+-- too long a value has the cause of one that the port sets, whoever sets it
+pub set-over : (p : ℕ) (m : List ℕ) (n k : ℕ) (v : List ℕ) → k ≡ place n → lists p k ≡ true → sendable p v ≡ false → Set p m n v 0x6F m
+set-over p m n k v e h l = go (byController (rowAt k .owner)) refl
+  where
+    go : (b : Bool) → byController (rowAt k .owner) ≡ b → Set p m n v 0x6F m
+    go true o = set-too-long p m n k v e h o l
+    go false o = set-foreign p m n k v e h o
+
+-- where octets are spared, two are wanted
+pub set-unfit : (p : ℕ) (m : List ℕ) (n k : ℕ) (v : List ℕ) → k ≡ place n → lists p k ≡ true → sendable p v ≡ true → spared p k ≢ 0 → length v ≢ 2 → Set p m n v 0x02 m
+unfolding rowAt rows byController
+set-unfit p m n k v e h l ne u =
+    let q = spared-two p k ne .1 in
+    let f = spared-unfit p m v k (λ c. absurd (omega (arith, q, c))) ne u in
+    set-refused p m n k v e h (rw q) l (sym f) (rw f) refl
+
+-- Release 18 has a value on the wire as memory has it, and sends it back whatever its length
+pub unspared : (k : ℕ) (v : List ℕ) → v ≡ inMemory release18 k v
+unfolding inMemory spared isRelease16
+unspared k v = refl
+
+pub any-sendable : (v : List ℕ) → sendable release18 v ≡ true
+unfolding sendable implies isRelease16
+any-sendable v = refl
+
+commit-unspared : (v : List ℕ) → inMemory release16 commit v ≡ v
+unfolding inMemory spared isRelease16
+commit-unspared v = refl
+
+-- Release 16 sets the value as memory has it, where Release 18 sets that
+lists-more : (k : ℕ) → lists release16 k ≡ true → lists release18 k ≡ true
+unfolding lists isRelease16
+lists-more k h = rw (and-left (ltb k entryCount) _ h)
+
+stored-alike : (m : List ℕ) (k : ℕ) (v w : List ℕ) → w ≡ inMemory release16 k v → (permitted release18 m k w ≡ permitted release16 m k v) × (stored release18 m k w ≡ stored release16 m k v)
+unfolding permitted stored
+stored-alike m k v w q = go (eqb k commit) refl
+  where
+    go : (b : Bool) → eqb k commit ≡ b → (permitted release18 m k w ≡ permitted release16 m k v) × (stored release18 m k w ≡ stored release16 m k v)
+    go true e = rw (e, q, eqb-true k commit e, commit-unspared v) (refl, refl)
+    go false e = rw (e, ← unspared k w, ← q) (refl, refl)
+
+pub as-memory : (m : List ℕ) (n k : ℕ) (v w : List ℕ) {cause : ℕ} {after : List ℕ} → k ≡ place n → lists release16 k ≡ true → sendable release16 v ≡ true → w ≡ inMemory release16 k v
+    → Set release18 m n w cause after → Set release16 m n v cause after
+unfolding setMemory setChecks listed sendable implies isRelease16
+as-memory m n k v w e h l q s =
+    let t = stored-alike m k v w q in
+    rw (← e, h, l, ← t .0, ← t .1) (rw (← e, lists-more k h) at s)
+
+-- any other profile sets as Release 18 does
+pub as-eighteen : (p : ℕ) (m : List ℕ) (n : ℕ) (v : List ℕ) {cause : ℕ} {after : List ℕ} → p ≢ release16 → Set release18 m n v cause after → Set p m n v cause after
+unfolding setMemory setChecks listed lists sendable implies permitted stored inMemory spared isRelease16
+as-eighteen p m n v ne s = rw (ne-eqb p release16 ne) s
 
 -- ---- marks
 

@@ -1,14 +1,14 @@
 // One operation of a command carried out on the working copy: the memory that it leaves and the answer that it gives, by the
 // port's profile. Both are those of `meaning`, for sound memory.
-ghost use Prim.Native.Nat.{_<_};
+ghost use Prim.Native.Nat.{_+_, _≤_, _<_};
 ghost use mathlib.Core.Path.{_≡_};
 ghost use mathlib.Core.Bool.{true, cond};
 ghost use lib.ListN.{length};
+ghost use Rattle.meaning.specs.Octets.{part};
 ghost use Rattle.meaning.specs.Checks.{firstFailed};
-ghost use Rattle.meaning.specs.Table.{memoryLength, entryCount, rowAt, commit};
-ghost use Rattle.meaning.specs.Block.{permits};
+ghost use Rattle.meaning.specs.Table.{memoryLength, entryCount, commit};
 ghost use Rattle.meaning.specs.Memory.{sound, store};
-ghost use Rattle.meaning.specs.Profile.{sendable};
+ghost use Rattle.meaning.specs.Profile.{release18, release16};
 ghost use Rattle.meaning.specs.Step.{readAnswer, block, commits, permitted, setChecks, stored, setMemory, subscribeMemory, unsubscribeMemory, step, answer};
 ghost use Rattle.operation.specs.Handing.{opOf, Inside};
 ghost use Rattle.command.specs.Answers.{told, mayChange};
@@ -63,11 +63,15 @@ fn put_commit(m: &mut [u8], v: &[u8]) -> bool
     true
 }
 
-// A value as memory has it put at a place, where its row permits it.
-fn put_row(m: &mut [u8], k: usize, v: &[u8]) -> bool
+// A value put at a place, where its row or, for 8001, a commit's conditions permit it: a value as memory has it, which is how
+// Release 18 sends it.
+fn put_value(m: &mut [u8], k: usize, v: &[u8]) -> bool
     requires { ⌜ (sound (now m) ≡ true) × (k < entryCount) ⌝ }
-    ensures { λ r. ⌜ (r ≡ permits (rowAt k) (now (v .entry))) × (now (m .exit) ≡ cond (permits (rowAt k) (now (v .entry))) (store (now (m .entry)) k (now (v .entry))) (now (m .entry))) ⌝ }
+    ensures { λ r. ⌜ (r ≡ permitted release18 (now (m .entry)) k (now (v .entry))) × (now (m .exit) ≡ cond (permitted release18 (now (m .entry)) k (now (v .entry))) (store (now (m .entry)) k (stored release18 (now (m .entry)) k (now (v .entry)))) (now (m .entry))) ⌝ }
 {
+    if k == table::COMMIT {
+        return put_commit(m, v);
+    }
     if !table::permits(k, v) {
         return false;
     }
@@ -75,43 +79,18 @@ fn put_row(m: &mut [u8], k: usize, v: &[u8]) -> bool
     true
 }
 
-// A value from the wire put at a place, where its row or, for 8001, a commit's conditions permit it. Only one value has octets
-// spared, and with them it has four: fewer than two or more would not fill its room (RULES 24.4). Its place is said by name and
-// not as `k`: storing four octets at a known place is short, so that the compiler inlines it here and the other for itself.
-fn put_value(m: &mut [u8], k: usize, v: &[u8], profile: u8) -> bool
-    requires { ⌜ (sound (now m) ≡ true) × (k < entryCount) ⌝ }
-    ensures { λ r. ⌜ (r ≡ permitted profile (now (m .entry)) k (now (v .entry))) × (now (m .exit) ≡ cond (permitted profile (now (m .entry)) k (now (v .entry))) (store (now (m .entry)) k (stored profile (now (m .entry)) k (now (v .entry)))) (now (m .entry))) ⌝ }
-{
-    if k == table::COMMIT {
-        return put_commit(m, v);
-    }
-    if table::spared(profile, k) == 0 {
-        return put_row(m, k, v);
-    }
-    if v.len() != 2 {
-        return false;
-    }
-    let full = [0, 0, v[0], v[1]];
-    put_row(m, table::ADMIN_CONTROL_LIST_LENGTH, &full)
-}
-
-// Whether a set of so many octets has a record in its reply (RULES 24.6).
-fn sendable(v: &[u8], profile: u8) -> bool
-    ensures { λ r. ⌜ r ≡ sendable profile (now (v .entry)) ⌝ }
-{
-    (profile != wire::RELEASE_16) | (v.len() <= wire::SHORT_MOST)
-}
-
 // What stands for a cause where a set succeeds.
 const NO_CAUSE: u8 = 0;
 
-// A set: its cause, or none where it succeeds.
-fn set(m: &mut [u8], name: usize, v: &[u8], profile: u8) -> u8
-    requires { ⌜ sound (now m) ≡ true ⌝ }
-    ensures { λ r. ⌜ (r ≡ firstFailed (setChecks profile (now (m .entry)) name (now (v .entry)))) × (now (m .exit) ≡ setMemory profile (now (m .entry)) name (now (v .entry))) ⌝ }
+// A set of a value in full, as memory has it and as Release 18 sends it: its cause, or none where it succeeds. The value is a part
+// of what is lent, and not lent as a slice of its own: that would be copied on its way to `table::permits`, and the copy would
+// wait until both halves of it are stored (DECISIONS 212).
+fn set_full(m: &mut [u8], s: &[u8], name: usize, from: usize, size: usize) -> u8
+    requires { ⌜ (sound (now m) ≡ true) × (from + size ≤ length (now s)) ⌝ }
+    ensures { λ r. ⌜ (r ≡ firstFailed (setChecks release18 (now (m .entry)) name (part (now (s .entry)) from size))) × (now (m .exit) ≡ setMemory release18 (now (m .entry)) name (part (now (s .entry)) from size)) ⌝ }
 {
     let k = table::place_of(name);
-    if !table::lists(profile, k) {
+    if !table::lists(wire::RELEASE_18, k) {
         return wire::CAUSE_NOT_SUPPORTED;
     }
     let row = table::row_at(k);
@@ -119,13 +98,44 @@ fn set(m: &mut [u8], name: usize, v: &[u8], profile: u8) -> u8
     if !table::by_controller(owner) {
         return wire::CAUSE_PROTOCOL_ERROR;
     }
-    if !sendable(v, profile) {
-        return wire::CAUSE_PROTOCOL_ERROR;
-    }
-    if !put_value(m, k, v, profile) {
+    if !put_value(m, k, &s[from..from + size]) {
         return wire::CAUSE_INVALID_VALUE;
     }
     NO_CAUSE
+}
+
+// A set in Release 16: what it alone asks, then the set of the value in full. Only one value has octets spared, and with them it
+// has four: fewer than two or more would not fill its room (RULES 24.4).
+fn set_16(m: &mut [u8], list: &[u8], name: usize, from: usize, size: usize) -> u8
+    requires { ⌜ (sound (now m) ≡ true) × (from + size ≤ length (now list)) ⌝ }
+    ensures { λ r. ⌜ (r ≡ firstFailed (setChecks release16 (now (m .entry)) name (part (now (list .entry)) from size))) × (now (m .exit) ≡ setMemory release16 (now (m .entry)) name (part (now (list .entry)) from size)) ⌝ }
+{
+    let k = table::place_of(name);
+    if !table::lists(wire::RELEASE_16, k) {
+        return wire::CAUSE_NOT_SUPPORTED;
+    }
+    if wire::SHORT_MOST < size {
+        return wire::CAUSE_PROTOCOL_ERROR;
+    }
+    if table::spared(wire::RELEASE_16, k) == 0 {
+        return set_full(m, list, name, from, size);
+    }
+    if size != 2 {
+        return wire::CAUSE_INVALID_VALUE;
+    }
+    let full = [0, 0, list[from], list[from + 1]];
+    set_full(m, &full, name, 0, 4)
+}
+
+// A set: its cause, or none where it succeeds.
+fn set(m: &mut [u8], list: &[u8], name: usize, from: usize, size: usize, profile: u8) -> u8
+    requires { ⌜ (sound (now m) ≡ true) × (from + size ≤ length (now list)) ⌝ }
+    ensures { λ r. ⌜ (r ≡ firstFailed (setChecks profile (now (m .entry)) name (part (now (list .entry)) from size))) × (now (m .exit) ≡ setMemory profile (now (m .entry)) name (part (now (list .entry)) from size)) ⌝ }
+{
+    if profile == wire::RELEASE_16 {
+        return set_16(m, list, name, from, size);
+    }
+    set_full(m, list, name, from, size)
 }
 
 // The mark set; nothing on an unlisted name.
@@ -160,7 +170,7 @@ pub fn carry_out(m: &mut [u8], list: &[u8], op: Op, profile: u8) -> Answer
         Op::Capabilities => Answer::Names,
         Op::Read(name) => read(m, name, profile),
         Op::Set(name, from, size) => {
-            let cause = set(m, name, &list[from..from + size], profile);
+            let cause = set(m, list, name, from, size, profile);
             if cause == NO_CAUSE {
                 Answer::Update
             } else {

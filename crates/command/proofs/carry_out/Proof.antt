@@ -1,14 +1,11 @@
 -- `command::carry_out` meets its contract.
 use Prim.Native.Nat.{ℕ, _+_, _≤_, _<_}
-use mathlib.Core.Path.{_≡_, refl, sym, ap, _∙_}
+use mathlib.Core.Path.{refl, sym, ap, _∙_}
 use mathlib.Core.List.{List}
 use lib.ListN.{length}
 use borrow.Author.Needs.{needs}
-use Rattle.meaning.specs.Octets.{part}
-use Rattle.meaning.specs.Checks.{firstFailed}
-use Rattle.meaning.specs.Step.{setChecks, setMemory, step, answer}
+use Rattle.meaning.specs.Step.{step, answer}
 use Rattle.operation.specs.Handing.{opOf}
-use Rattle.octets.proofs.Splices.{part-is}
 use Rattle.command.specs.Answers.{told}
 use Rattle.command.proofs.Sets.{long-of, answer-update, answer-cause}
 use Rattle.command.proofs.carry_out.Statement.{statement}
@@ -43,24 +40,8 @@ read-requires c κs = long-of _ (c .before .before .before .before .before .befo
 enum-known-op-2 : tie.Need-enum-known-op-2
 enum-known-op-2 c = search needs
 
-add-set : tie.Need-add-set
-add-set c =
-    let h = within (c .before .before) in
-    search needs
-
-sub-set : tie.Need-sub-set
-sub-set c = search needs
-
-part-set-start : tie.Need-part-set-start
-part-set-start c = search needs
-
-part-set-end : tie.Need-part-set-end
-part-set-end c =
-    let h = within (c .before .before) in
-    search needs
-
 set-requires : tie.Need-set-requires
-set-requires c κs = search needs
+set-requires c κs = (c .before .before .before .before .before .before .pre .0, within (c .before .before))
 
 enum-known-op-3 : tie.Need-enum-known-op-3
 enum-known-op-3 c = search needs
@@ -104,11 +85,9 @@ returns-3 : tie.Need-returns-3
 unfolding opOf step answer told
 returns-3 c =
     let p = c .before .before .before .set in
-    let k = c .before .before .before .before .before .before .before in
-    let m = c .before .before .before .before .before .before .before .before .before .before .before .args .m .now in
-    let n = k .op2 .given .0 .0 in
-    let e : firstFailed (setChecks _ m n (part (list k) (from k) (size k))) ≡ 0 = rw (part-is (list k) (from k) (size k)) at (sym (p .ensures .0) ∙ c .if1 .taken) in
-    rw (k .op2 .given .1) (p .ensures .1 ∙ ap (setMemory _ m n) (part-is (list k) (from k) (size k)), sym (ap told (answer-update _ m n _ e)))
+    let k = c .before .before .before .before .before .before in
+    let m = k .before .before .before .before .args .m .now in
+    rw (k .op2 .given .1) (p .ensures .1, sym (ap told (answer-update _ m (k .op2 .given .0 .0) _ (sym (p .ensures .0) ∙ c .if1 .taken))))
 
 same-length-3 : tie.Need-same-length-3
 same-length-3 c = search needs
@@ -117,11 +96,9 @@ returns-4 : tie.Need-returns-4
 unfolding opOf step answer told
 returns-4 c =
     let p = c .before .before .before .set in
-    let k = c .before .before .before .before .before .before .before in
-    let m = c .before .before .before .before .before .before .before .before .before .before .before .args .m .now in
-    let n = k .op2 .given .0 .0 in
-    let e : p .result ≡ firstFailed (setChecks _ m n (part (list k) (from k) (size k))) = rw (part-is (list k) (from k) (size k)) at (p .ensures .0) in
-    rw (k .op2 .given .1) (p .ensures .1 ∙ ap (setMemory _ m n) (part-is (list k) (from k) (size k)), sym (ap told (answer-cause _ m n _ _ e (c .if1 .left))))
+    let k = c .before .before .before .before .before .before in
+    let m = k .before .before .before .before .args .m .now in
+    rw (k .op2 .given .1) (p .ensures .1, sym (ap told (answer-cause _ m (k .op2 .given .0 .0) _ _ (p .ensures .0) (c .if1 .left))))
 
 same-length-4 : tie.Need-same-length-4
 same-length-4 c = search needs
@@ -161,10 +138,6 @@ carry-out-spec =
     enum-known-op
     read-requires
     enum-known-op-2
-    add-set
-    sub-set
-    part-set-start
-    part-set-end
     set-requires
     enum-known-op-3
     subscribe-requires
