@@ -1,6 +1,7 @@
 //! The stack that a call takes: the deepest way through the functions of a disassembled library.
 
-use std::collections::HashMap;
+use std::cmp::Reverse;
+use std::collections::{BTreeSet, HashMap};
 use std::fmt;
 
 use super::assembly::{self, Function, Leads, Made, Step};
@@ -115,37 +116,55 @@ impl Frame {
     }
 }
 
+/// Octets on the stack before each step of a function, where a way is known that leads to it.
+type Depths = Vec<Option<i64>>;
+
 /// How many octets a function has on the stack before each of its steps, along every way. All ways
 /// to a step have to agree, and a return has to find the stack as it was.
-fn depths(steps: &[Step]) -> Result<Vec<Option<i64>>, String> {
+fn depths(steps: &[Step]) -> Result<Depths, String> {
     let places = steps
         .iter()
         .enumerate()
         .map(|(place, step)| (step.at, place));
     let places: HashMap<u64, usize> = places.collect();
-    let mut depths = vec![None; steps.len()];
-    let mut due = vec![(0, ENTRY)];
-    loop {
-        while let Some((place, depth)) = due.pop() {
-            match depths.get(place) {
-                Some(Some(known)) if *known != depth => {
-                    let at = steps[place].at;
-                    return Err(format!(
-                        "comes to {at:x} with {known} and with {depth} octets"
-                    ));
-                }
-                Some(None) => {
-                    depths[place] = Some(depth);
-                    due.extend(onward(place, &steps[place], depth, &places)?);
-                }
-                _ => (),
-            }
-        }
-        match hidden(steps, &depths)? {
-            Some(place) => due.push(place),
-            None => return Ok(depths),
+    let mut depths = followed(steps, &places, vec![None; steps.len()], (0, ENTRY))?;
+    while let Some(place) = hidden(steps, &depths) {
+        let tried = jumps(steps, &depths)
+            .into_iter()
+            .map(|Reverse(depth)| followed(steps, &places, depths.clone(), (place, depth)));
+        // The deepest that goes with all else; where none does, why the last does not.
+        match tried.reduce(|found, next| found.or(next)) {
+            Some(found) => depths = found?,
+            None => break,
         }
     }
+    Ok(depths)
+}
+
+/// What is known of the depths, and what follows from the depth at one place.
+fn followed(
+    steps: &[Step],
+    places: &HashMap<u64, usize>,
+    mut depths: Depths,
+    from: (usize, i64),
+) -> Result<Depths, String> {
+    let mut due = vec![from];
+    while let Some((place, depth)) = due.pop() {
+        match depths.get(place) {
+            Some(Some(known)) if *known != depth => {
+                let at = steps[place].at;
+                return Err(format!(
+                    "comes to {at:x} with {known} and with {depth} octets"
+                ));
+            }
+            Some(None) => {
+                depths[place] = Some(depth);
+                due.extend(onward(place, &steps[place], depth, places)?);
+            }
+            _ => (),
+        }
+    }
+    Ok(depths)
 }
 
 /// The places that a step leads to, and the depth there.
@@ -176,19 +195,15 @@ fn onward(
     })
 }
 
-/// A place that no way has led to yet, and the depth of the computed jumps, which then lead there.
-fn hidden(steps: &[Step], depths: &[Option<i64>]) -> Result<Option<(usize, i64)>, String> {
-    let known = || steps.iter().zip(depths);
-    let left = known().position(|(step, depth)| depth.is_none() && step.leads != Leads::Filler);
-    let jumps = known().filter(|(step, _)| step.leads == Leads::Computed);
-    let mut jumps = jumps.filter_map(|(_, depth)| *depth);
-    let (Some(left), Some(depth)) = (left, jumps.next()) else {
-        return Ok(None);
-    };
-    match jumps.find(|other| *other != depth) {
-        Some(other) => Err(format!(
-            "computes jumps with {depth} and with {other} octets"
-        )),
-        None => Ok(Some((left, depth))),
-    }
+/// A place that no way has led to yet: a computed jump leads there, if there is one.
+fn hidden(steps: &[Step], depths: &[Option<i64>]) -> Option<usize> {
+    let mut known = steps.iter().zip(depths);
+    known.position(|(step, depth)| depth.is_none() && step.leads != Leads::Filler)
+}
+
+/// The depths of the computed jumps, the greatest first.
+fn jumps(steps: &[Step], depths: &[Option<i64>]) -> BTreeSet<Reverse<i64>> {
+    let known = steps.iter().zip(depths);
+    let jumps = known.filter(|(step, _)| step.leads == Leads::Computed);
+    jumps.filter_map(|(_, depth)| depth.map(Reverse)).collect()
 }

@@ -175,6 +175,38 @@ fn the_stack_is_followed_along_jumps() {
         "nop",
     ];
     assert_eq!(of(&table), Ok(24));
+    // Of several depths it has the one that goes with all else: here the lower one, there the higher one.
+    let lower = [
+        "je 2",
+        "jmp *%rax",
+        "push %rax",
+        "jmp *%rax",
+        "push %rbx",
+        "pop %rbx",
+        "ret",
+    ];
+    assert_eq!(of(&lower), Ok(16));
+    let higher = [
+        "je 2",
+        "jmp *%rax",
+        "push %rax",
+        "jmp *%rax",
+        "push %rbx",
+        "pop %rbx",
+        "pop %rax",
+        "ret",
+    ];
+    assert_eq!(of(&higher), Ok(24));
+    // If each does, the highest.
+    let either = [
+        "je 2",
+        "jmp *%rax",
+        "push %rax",
+        "jmp *%rax",
+        "push %rbx",
+        "ud2",
+    ];
+    assert_eq!(of(&either), Ok(24));
     // What cannot be reached takes nothing.
     assert_eq!(of(&["ud2", "sub $0x400,%rsp"]), Ok(8));
     assert_eq!(
@@ -245,8 +277,16 @@ fn ways_that_cannot_be_followed_are_refused() {
         let list: Vec<&str> = instructions.split_terminator("; ").collect();
         assert_eq!(of(&list), Err(format!("f {why}")));
     }
-    let computed = ["je 2", "jmp *%rax", "push %rax", "jmp *%rax", "ret"];
-    let why = "f computes jumps with 8 and with 16 octets";
+    // No depth of a computed jump goes with what it leads to.
+    let computed = [
+        "je 2",
+        "jmp *%rax",
+        "push %rax",
+        "jmp *%rax",
+        "push %rbx",
+        "ret",
+    ];
+    let why = "f leaves with 8 octets on the stack";
     assert_eq!(of(&computed), Err(why.into()));
 }
 
