@@ -159,6 +159,24 @@ fn the_deepest_of_several_ways_counts() {
     assert_eq!(found, way(&[("g", 16), ("f", 8), ("large", 72)]));
 }
 
+/// The stack of a function that computes jumps with 8 and with 16 octets, and of what they lead to.
+fn behind_two_depths(led_to: &[&str]) -> Result<i64, String> {
+    let jumps = ["je 2", "jmp *%rax", "push %rax", "jmp *%rax"];
+    of(&[&jumps, led_to].concat())
+}
+
+#[test]
+fn what_computed_jumps_lead_to_has_a_depth_that_agrees() {
+    let lower = ["push %rbx", "pop %rbx", "ret"];
+    assert_eq!(behind_two_depths(&lower), Ok(16));
+    let higher = ["push %rbx", "pop %rbx", "pop %rax", "ret"];
+    assert_eq!(behind_two_depths(&higher), Ok(24));
+    // If each does, the highest.
+    assert_eq!(behind_two_depths(&["push %rbx", "ud2"]), Ok(24));
+    let why = "f leaves with 8 octets on the stack";
+    assert_eq!(behind_two_depths(&["push %rbx", "ret"]), Err(why.into()));
+}
+
 #[test]
 fn the_stack_is_followed_along_jumps() {
     // Registers are saved on some ways only, once on each.
@@ -175,38 +193,6 @@ fn the_stack_is_followed_along_jumps() {
         "nop",
     ];
     assert_eq!(of(&table), Ok(24));
-    // Of several depths it has the one that goes with all else: here the lower one, there the higher one.
-    let lower = [
-        "je 2",
-        "jmp *%rax",
-        "push %rax",
-        "jmp *%rax",
-        "push %rbx",
-        "pop %rbx",
-        "ret",
-    ];
-    assert_eq!(of(&lower), Ok(16));
-    let higher = [
-        "je 2",
-        "jmp *%rax",
-        "push %rax",
-        "jmp *%rax",
-        "push %rbx",
-        "pop %rbx",
-        "pop %rax",
-        "ret",
-    ];
-    assert_eq!(of(&higher), Ok(24));
-    // If each does, the highest.
-    let either = [
-        "je 2",
-        "jmp *%rax",
-        "push %rax",
-        "jmp *%rax",
-        "push %rbx",
-        "ud2",
-    ];
-    assert_eq!(of(&either), Ok(24));
     // What cannot be reached takes nothing.
     assert_eq!(of(&["ud2", "sub $0x400,%rsp"]), Ok(8));
     assert_eq!(
@@ -277,17 +263,6 @@ fn ways_that_cannot_be_followed_are_refused() {
         let list: Vec<&str> = instructions.split_terminator("; ").collect();
         assert_eq!(of(&list), Err(format!("f {why}")));
     }
-    // No depth of a computed jump goes with what it leads to.
-    let computed = [
-        "je 2",
-        "jmp *%rax",
-        "push %rax",
-        "jmp *%rax",
-        "push %rbx",
-        "ret",
-    ];
-    let why = "f leaves with 8 octets on the stack";
-    assert_eq!(of(&computed), Err(why.into()));
 }
 
 #[test]
