@@ -206,12 +206,12 @@ cut_parts p (x ∷ xs) = cut_more p x xs (cut_parts p xs)
 one_parts : (p : ℕ) (m room : List ℕ) (ps : List (List ℕ)) → parts_of (in_one_room p m room ps) ≡ ps
 unfolding in_one_room
 one_parts p m room [] = refl
-one_parts p m room (q ∷ ps) = ap (λ (l : List (List ℕ)). q ∷ l) (one_parts p _ _ ps)
+one_parts p m room (q ∷ ps) = ap (λ (l : List (List ℕ)). q ∷ l) (one_parts p (message p m (command_of q) room).memory (message p m (command_of q) room).room ps)
 
 one_roomy : (p n : ℕ) (m room : List ℕ) (ps : List (List ℕ)) → n ≤ length room → Roomy n (in_one_room p m room ps)
 unfolding in_one_room
 one_roomy p n m room [] h = tt
-one_roomy p n m room (q ∷ ps) h = (h, one_roomy p n _ _ ps (rw (message-room p m (command_of q) room).long h))
+one_roomy p n m room (q ∷ ps) h = (h, one_roomy p n (message p m (command_of q) room).memory (message p m (command_of q) room).room ps (rw (message-room p m (command_of q) room).long h))
 
 -- ---- the law
 
