@@ -22,7 +22,7 @@ module _ {K : Type 0} where
       → Apart lo ks at w hi → Apart lo ks at' w' hi
   unfolding Apart
   apart_same lo hi [] e f a = a
-  apart_same lo hi (k ∷ ks) e f a = (rw (e k) at a.0, apart_same _ hi ks e f (rw (e k, f k) at a.1))
+  apart_same lo hi (k ∷ ks) {at = at} {at' = at'} {w = w} {w' = w'} e f a = (rw (e k) at a.0, apart_same (at' k + length (w' k)) hi ks e f (rw (e k, f k) at a.1))
 
   pub fill_none : (ks : List K) (at : K → ℕ) {w : K → List ℕ} (out : List ℕ) → ((k : K) → w k ≡ []) → fill ks at w out ≡ out
   unfolding fill
@@ -34,12 +34,12 @@ module _ {K : Type 0} where
   apart_le : (lo hi : ℕ) (ks : List K) (at : K → ℕ) (w : K → List ℕ) → Apart lo ks at w hi → lo ≤ hi
   unfolding Apart
   apart_le lo hi [] at w a = a
-  apart_le lo hi (k ∷ ks) at w a = omega (arith, a.0, apart_le _ hi ks at w a.1)
+  apart_le lo hi (k ∷ ks) at w a = omega (arith, a.0, apart_le (at k + length (w k)) hi ks at w a.1)
 
   pub apart_within : (lo lo' hi hi' : ℕ) (ks : List K) (at : K → ℕ) (w : K → List ℕ) → lo' ≤ lo → hi ≤ hi' → Apart lo ks at w hi → Apart lo' ks at w hi'
   unfolding Apart
   apart_within lo lo' hi hi' [] at w l h a = omega (arith, a)
-  apart_within lo lo' hi hi' (k ∷ ks) at w l h a = (omega (arith, a.0), apart_within _ _ hi hi' ks at w (omega arith) h a.1)
+  apart_within lo lo' hi hi' (k ∷ ks) at w l h a = (omega (arith, a.0), apart_within (at k + length (w k)) _ hi hi' ks at w (omega arith) h a.1)
 
   pub fill-length : (lo hi : ℕ) (ks : List K) (at : K → ℕ) (w : K → List ℕ) (out : List ℕ) → Apart lo ks at w hi → hi ≤ length out
       → length (fill ks at w out) ≡ length out
@@ -47,7 +47,7 @@ module _ {K : Type 0} where
   fill-length lo hi [] at w out a h = refl
   fill-length lo hi (k ∷ ks) at w out a h =
       let e = splice-length out (at k) (w k) (omega (arith, apart_le _ hi ks at w a.1)) in
-      fill-length _ hi ks at w (splice out (at k) (w k)) a.1 (omega (arith, e)) ∙ e
+      fill-length (at k + length (w k)) hi ks at w (splice out (at k) (w k)) a.1 (omega (arith, e)) ∙ e
 
   -- a write before all the regions, first or last
   fill_past : (lo hi : ℕ) (ks : List K) (at : K → ℕ) (w : K → List ℕ) (out v : List ℕ) (i : ℕ) → i + length v ≤ lo → Apart lo ks at w hi → hi ≤ length out
@@ -57,7 +57,7 @@ module _ {K : Type 0} where
   fill_past lo hi (k ∷ ks) at w out v i l a h =
       let n : at k + length (w k) ≤ length out = omega (arith, apart_le _ hi ks at w a.1) in
       ap (fill ks at w) (splice_comm out v (w k) i (at k) (omega (arith, a.0)) n)
-      ∙ fill_past _ hi ks at w (splice out (at k) (w k)) v i (omega (arith, a.0)) a.1 (omega (arith, splice-length out (at k) (w k) n))
+      ∙ fill_past (at k + length (w k)) hi ks at w (splice out (at k) (w k)) v i (omega (arith, a.0)) a.1 (omega (arith, splice-length out (at k) (w k) n))
 
   -- ---- one octet string behind another in every region
 
@@ -71,12 +71,12 @@ module _ {K : Type 0} where
     pub apart_first : (lo hi : ℕ) (ks : List K) → Apart lo ks at both hi → Apart lo ks at a hi
     unfolding Apart
     apart_first lo hi [] p = p
-    apart_first lo hi (k ∷ ks) p = (p.0, apart_within _ _ hi hi ks at a (omega (arith, length-append (a k) (b k))) (omega arith) (apart_first _ hi ks p.1))
+    apart_first lo hi (k ∷ ks) p = (p.0, apart_within _ _ hi hi ks at a (omega (arith, length-append (a k) (b k))) (omega arith) (apart_first (at k + length (both k)) hi ks p.1))
 
     pub apart_next : (lo hi : ℕ) (ks : List K) → Apart lo ks at both hi → Apart lo ks behind b hi
     unfolding Apart
     apart_next lo hi [] p = p
-    apart_next lo hi (k ∷ ks) p = (omega (arith, p.0), apart_within _ _ hi hi ks behind b (omega (arith, length-append (a k) (b k))) (omega arith) (apart_next _ hi ks p.1))
+    apart_next lo hi (k ∷ ks) p = (omega (arith, p.0), apart_within _ _ hi hi ks behind b (omega (arith, length-append (a k) (b k))) (omega arith) (apart_next (at k + length (both k)) hi ks p.1))
 
     -- filled twice is filled once with both
     pub fill-fill : (lo hi : ℕ) (ks : List K) (out : List ℕ) → Apart lo ks at both hi → hi ≤ length out
@@ -90,7 +90,7 @@ module _ {K : Type 0} where
         ap (fill ks behind b)
         (sym (fill_past _ hi ks at a s (b k) (behind k) (omega (arith, length-append (a k) (b k))) (apart_first _ hi ks p.1) (omega (arith, splice-length out (at k) (a k) m)))
         ∙ ap (fill ks at a) (splice-splice out (a k) (b k) (at k) m))
-        ∙ fill-fill _ hi ks (splice out (at k) (both k)) p.1 (omega (arith, splice-length out (at k) (both k) n))
+        ∙ fill-fill (at k + length (both k)) hi ks (splice out (at k) (both k)) p.1 (omega (arith, splice-length out (at k) (both k) n))
 
   -- ---- regions with no gap are one
 

@@ -7,7 +7,7 @@ use native.Mathlib.Numerals.{add-one}
 use mathlib.Core.Path.{◌≡◌, refl, sym, ap, ◌∙◌}
 use mathlib.Core.List.{List, [], ◌∷◌, ◌++◌, append_assoc, append-nil}
 use lib.ListN.{length, take, drop, set, length-append, length-drop, take-append-drop, drop_of_length-le}
-use lib.Seq.{take_at, take-append-le, drop-append-le, drop-append-add, drop-drop, length-take-le, take_all, take-length, drop-cons, sets-eq}
+use lib.Seq.{take_at, take-append-le, drop-append-le, drop-append-add, drop-drop, length-take-le, take_all, drop-cons, sets-eq}
 use borrow.Rule.Slice.PartMut.{put_mid, Post-is}
 use Rattle.meaning.specs.Octets.{octet, part, splice}
 use Rattle.meaning.proofs.Lists.{length_part, octet-part, splice-length, splice_before}
@@ -136,13 +136,7 @@ lent_back m ys a e h l =
     let k : a + length ys ≡ e = omega arith in
     rw (Post-is a e m h, k)
 
--- octets copied over as many
-pub copied_whole : (src old last : List ℕ) → length old ≤ length src → last ≡ take (length src) src ++ drop (length src) old → last ≡ src
-copied_whole src old last k e = rw (e, take-length src, drop_of_length-le old k) (append-nil src)
-
 -- octets copied into a part that is just as long
-pub copied_in : (out src part last : List ℕ) (at : ℕ) → length part ≡ at + length src - at → last ≡ take (length src) src ++ drop (length src) part
-    → put_mid at (at + length src - at) out last ≡ splice out at src
-copied_in out src part last at n e =
-    let f : last ≡ src = copied_whole src part last (omega arith) e in
-    lent_back out last at (at + length src) (omega arith) (rw f (omega arith)) ∙ ap (splice out at) f
+pub copied_in : (out src last : List ℕ) (at : ℕ) → at + length src ≤ length out → last ≡ src → put_mid at (at + length src - at) out last ≡ splice out at src
+copied_in out src last at n e =
+    lent_back out last at (at + length src) (omega arith) (rw e (omega arith)) ∙ ap (splice out at) e

@@ -7,7 +7,7 @@ use mathlib.Core.Path.{◌≡◌, refl, ap}
 use mathlib.Core.Bool.{false}
 use mathlib.Core.List.{List, [], ◌∷◌, ◌++◌, append-nil}
 use lib.ListN.{length, get_or, take, drop, set, length-set, length-append, length-drop}
-use lib.Seq.{drop-cons, take_at, take_all, take-length}
+use lib.Seq.{drop-cons, take_at, take_all}
 use borrow.Author.Tests.{ne_eqb}
 use Rattle.meaning.specs.Octets.{zeros, blank}
 
@@ -30,11 +30,11 @@ unfolding zeroed
 zero_end s i h = rw (sub-eq-zero_of_le h, take_all i s h, append-nil)
 
 -- a value copied to a room's front, and the room zeroed after it
-pub filled : (m r v : List ℕ) → length v ≤ length r → m ≡ take (length v) v ++ drop (length v) r → zeroed m (length v) ≡ v ++ zeros (length r - length v)
+pub filled : (r v : List ℕ) → length v ≤ length r → zeroed (v ++ drop (length v) r) (length v) ≡ v ++ zeros (length r - length v)
 unfolding zeroed
-filled m r v h e =
+filled r v h =
     let l : length (v ++ drop (length v) r) ≡ length r = simp (length-append, length-drop) (omega arith) in
-    rw (e, take-length, l, take_at v (drop (length v) r) (length v) refl)
+    rw (l, take_at v (drop (length v) r) (length v) refl)
 
 -- ---- the scan
 

@@ -1,5 +1,7 @@
 // Octets in lent memory: numbers of two and four octets, a room filled, octets appended, a test for zeros.
 // Each function says by a definition of `meaning` what it returns and what every lent octet holds afterwards.
+#![tactic(auto)]
+
 ghost use Rattle.std.specs.Prelude.{◌+◌, ◌-◌, ◌≤◌, ◌<◌, ◌≡◌, false, ◌++◌, length, take};
 ghost use Rattle.meaning.specs.Octets.{at16, at32, be16, part, splice, zeros, blank};
 ghost use Rattle.octets.specs.Writing.{Wrote};
@@ -55,7 +57,7 @@ pub fn fill(room: &mut [u8], value: &[u8])
     requires { length value.now ≤ length room.old }
     ensures { room.new ≡ value.now ++ zeros (length room.old - length value.now) }
 {
-    bytes::copy(value, room);
+    room[..value.len()].copy_from_slice(value);
     clear_from(room, value.len());
 }
 
@@ -68,7 +70,7 @@ pub fn renew(room: &mut [u8], src: &[u8], differ: bool)
     if !differ {
         return;
     }
-    bytes::copy(&src[0..room.len()], room);
+    room.copy_from_slice(&src[0..room.len()]);
 }
 
 // Octets written at a place; the place after them.
@@ -77,7 +79,7 @@ pub fn append(out: &mut [u8], at: usize, src: &[u8]) -> usize
     ensures { Wrote out.old at src.now result out.new }
 {
     let end = at + src.len();
-    bytes::copy(src, &mut out[at..end]);
+    out[at..end].copy_from_slice(src);
     end
 }
 
