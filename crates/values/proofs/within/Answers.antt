@@ -1,0 +1,6 @@
+-- `values::within` meets its contract.
+use borrow.Author.Rules.{rules}
+use Rattle.values.proofs.within.Goals as goal
+
+pub returns : goal.returns
+returns c = rw c.as_number-n.ensures.0
