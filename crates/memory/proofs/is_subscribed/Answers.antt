@@ -1,0 +1,9 @@
+-- `memory::is_subscribed` meets its contract.
+use mathlib.Core.Path.{refl}
+use borrow.Author.Rules.{rules}
+use Rattle.meaning.specs.Memory.{is_subscribed}
+use Rattle.memory.proofs.is_subscribed.Goals as goal
+
+pub returns : goal.returns
+unfolding is_subscribed
+returns c = refl

@@ -1,0 +1,15 @@
+-- `memory::name_cells` meets its contract.
+use Prim.Native.Nat.{ℕ, ◌-◌, ◌≤◌}
+use native.Mathlib.Numerals.{add-one}
+use native.Mathlib.Omega.{arith}
+use mathlib.Core.Path.{◌≡◌, refl, ap, ◌∙◌}
+use lib.ListN.{length}
+use borrow.Author.Rules.{rules}
+use Rattle.meaning.specs.Memory.{absent}
+use Rattle.memory.proofs.name_cells.Given as goal
+
+abbrev pub invariant-loop-k : goal.invariant-loop-k
+invariant-loop-k l = (l.k ≤ 19) × (length l.m ≡ 2100) × (length l.m ≡ length l.initial.m) × (l.m ≡ absent l.k l.initial.m)
+
+abbrev pub decreases-loop-k : goal.decreases-loop-k
+decreases-loop-k l = 19 - l.k

@@ -1,0 +1,8 @@
+-- `memory::size` meets its contract.
+use borrow.Author.Rules.{rules}
+use Rattle.meaning.specs.Memory.{size}
+use Rattle.memory.proofs.size.Goals as goal
+
+pub returns : goal.returns
+unfolding size
+returns c = c.get16.ensures
