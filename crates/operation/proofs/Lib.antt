@@ -3,5 +3,4 @@
 pub mod Turns
 pub mod Found
 pub mod Hands
-pub mod Reading
 pub mod ToTheEnd

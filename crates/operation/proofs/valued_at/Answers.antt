@@ -1,12 +1,12 @@
 -- `operation::valued_at` meets its contract.
 use native.Mathlib.Omega.{arith}
 use mathlib.Core.Path.{sym, ◌∙◌}
-use mathlib.Core.Logic.{⊎_elim}
 use borrow.Author.Rules.{rules}
 use Rattle.meaning.proofs.Tests.{denied, affirmed}
 use Rattle.operation.specs.Handing.{found_at}
 use Rattle.operation.proofs.Found.{length-short, value-short, set_found, selective_read_found, selective_subscribe_found, selective_unsubscribe_found, delete_entry_found, missing_found, other_found}
 use Rattle.operation.proofs.valued_at.Goals as goal
+use Rattle.operation.proofs.valued_at.Goals.{in-3, in-6, in-7, in-8, in-9}
 
 pub returns-then-left-lt5 : goal.returns-then-left-lt5
 unfolding found_at
@@ -27,18 +27,18 @@ returns-then-not-has_code c =
 pub returns-in_default : goal.returns-in_default
 unfolding found_at
 returns-in_default c =
-    let r = c.in-3.rest in
     c.malformed_at-in_default.ensures ∙ other_found _ _ _ (omega (arith, c.requires.0)) (sym c.has_code.ensures ∙ c.if-not-has_code.false)
-    c.requires.1 r.0.0.0.0.1 r.0.0.0.1 r.0.0.1 r.0.1 r.1
+    c.requires.1 (λ e. omega arith) (λ e. omega arith) (λ e. omega arith) (λ e. omega arith) (λ e. omega arith)
 
 pub returns : goal.returns
 returns c =
     let n = c.get16-name in
     let z = c.get16-size in
     let has = sym c.has_code.ensures ∙ c.if-not-has_code.false in
-    ⊎_elim (λ w. set_found _ _ _ (omega (arith, c.requires.0)) n.result _ z.result _ (omega arith) n.ensures.0 z.ensures.0 (omega (arith, c.if-left-size.false)) has w.0.keys1 w.1)
-    (⊎_elim (λ w. selective_read_found _ _ _ (omega (arith, c.requires.0)) n.result _ z.result _ (omega arith) n.ensures.0 z.ensures.0 (omega (arith, c.if-left-size.false)) has w.0.keys2 w.1)
-    (⊎_elim (λ w. selective_subscribe_found _ _ _ (omega (arith, c.requires.0)) n.result _ z.result _ (omega arith) n.ensures.0 z.ensures.0 (omega (arith, c.if-left-size.false)) has w.0.keys3 w.1)
-    (⊎_elim (λ w. selective_unsubscribe_found _ _ _ (omega (arith, c.requires.0)) n.result _ z.result _ (omega arith) n.ensures.0 z.ensures.0 (omega (arith, c.if-left-size.false)) has w.0.keys4 w.1)
-    (λ w. delete_entry_found _ _ _ (omega (arith, c.requires.0)) n.result _ z.result _ (omega arith) n.ensures.0 z.ensures.0 (omega (arith, c.if-left-size.false)) has w.0.keys5 w.1))))
-    c.in-3.branch
+    elim c.match-code.branch [
+      in-3 w ↦ set_found _ _ _ (omega (arith, c.requires.0)) n.result _ z.result _ (omega arith) n.ensures.0 z.ensures.0 (omega (arith, c.if-left-size.false)) has w.in-3.is w.op-is
+      | in-6 w ↦ selective_read_found _ _ _ (omega (arith, c.requires.0)) n.result _ z.result _ (omega arith) n.ensures.0 z.ensures.0 (omega (arith, c.if-left-size.false)) has w.in-6.is w.op-is
+      | in-7 w ↦ selective_subscribe_found _ _ _ (omega (arith, c.requires.0)) n.result _ z.result _ (omega arith) n.ensures.0 z.ensures.0 (omega (arith, c.if-left-size.false)) has w.in-7.is w.op-is
+      | in-8 w ↦ selective_unsubscribe_found _ _ _ (omega (arith, c.requires.0)) n.result _ z.result _ (omega arith) n.ensures.0 z.ensures.0 (omega (arith, c.if-left-size.false)) has w.in-8.is w.op-is
+      | in-9 w ↦ delete_entry_found _ _ _ (omega (arith, c.requires.0)) n.result _ z.result _ (omega arith) n.ensures.0 z.ensures.0 (omega (arith, c.if-left-size.false)) has w.in-9.is w.op-is
+    ]
