@@ -7,7 +7,7 @@ ghost use Rattle.meaning.specs.Capture.{sized, front_held, several, length_octet
 ghost use Rattle.contents.specs.Spans.{spanned, kept, walked, place_after, is_whole, counted_in};
 
 // The octets of a message from one place up to another.
-#[derive(Drop)]
+#[derive(Clone, Copy)]
 pub struct Span {
     pub from: usize,
     pub to: usize,
@@ -68,7 +68,7 @@ fn length_octets(id: u8) -> usize
 }
 
 // Where the contents stand of the elements that are read, from 0 to 0 of one that is not; the highest of their identifiers.
-#[derive(Drop)]
+#[derive(Clone, Copy)]
 pub struct Contents {
     pub highest: u8,
     pub names: Span,

@@ -1,0 +1,14 @@
+-- `contents::pass` meets its contract. The values left from the next place on end where all end.
+use Prim.Native.Nat.{◌≤◌}
+use native.Mathlib.Omega.{arith}
+use mathlib.Core.Path.{◌≡◌, refl, sym, ◌∙◌}
+use borrow.Author.Rules.{rules}
+use Rattle.contents.proofs.Lengths.{found}
+use Rattle.contents.proofs.Records.{end_of, pass_end, pass-short, pass_cut, pass_on}
+use Rattle.contents.proofs.pass.Given as goal
+
+abbrev pub invariant-loop-left : goal.invariant-loop-left
+invariant-loop-left l = (l.at ≤ l.next) × (l.next ≤ l.to) × (end_of l.s l.next l.to l.w l.left ≡ end_of l.s l.at l.to l.w l.n)
+
+abbrev pub decreases-loop-left : goal.decreases-loop-left
+decreases-loop-left l = l.left
