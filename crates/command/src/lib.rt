@@ -14,7 +14,7 @@ use operation::Op;
 
 // An answer to an operation: all names; a value, by its place in the table, or a cause to a read; that the operation's value
 // is set, or a cause; no record. The name and the value of a set are the operation's, so an answer does not say them again.
-#[derive(Drop)]
+#[derive(Clone, Copy)]
 pub enum Answer {
     Names,
     Value(u8),

@@ -10,7 +10,7 @@ ghost use Rattle.notification.specs.Reports.{Few, more, due_at, due_of, part_of}
 ghost use Rattle.notification.specs.Moments.{moment_of, flags_after};
 
 // The records due: how many values with their octets, and how many absent ones.
-#[derive(Drop)]
+#[derive(Clone, Copy)]
 pub struct Due {
     pub values: usize,
     pub octets: usize,
@@ -106,7 +106,7 @@ pub fn write(m: &[u8], d: Due, out: &mut [u8], profile: u8) -> usize
 }
 
 // What comes of a notification: it is sent, acknowledged, or given up.
-#[derive(Drop)]
+#[derive(Clone, Copy)]
 pub enum Moment {
     Sent,
     Acknowledged,

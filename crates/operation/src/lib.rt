@@ -7,7 +7,7 @@ ghost use Rattle.meaning.specs.Profile.{has_code};
 ghost use Rattle.operation.specs.Handing.{name_of, from_of, size_of, NoValue, found_at, handed_at, wholeness};
 
 // An operation. A value lies in the list: where it starts, and its length.
-#[derive(Drop)]
+#[derive(Clone, Copy)]
 pub enum Op {
     Capabilities,
     Read(usize),

@@ -15,14 +15,14 @@ use command::Answer;
 use operation::{Handed, Op};
 
 // The records of a kind: how many, and their octets. Both in four octets, since a tally stands on the stack of a message.
-#[derive(Drop)]
+#[derive(Clone, Copy)]
 pub struct Count {
     pub count: u32,
     pub octets: u32,
 }
 
 // What a reply will hold.
-#[derive(Drop)]
+#[derive(Clone, Copy)]
 pub struct Tally {
     pub capabilities: bool,
     pub values: Count,
