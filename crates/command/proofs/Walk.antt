@@ -2,7 +2,7 @@
 use Prim.Native.Nat.{ℕ, ◌≤◌, ◌<◌}
 use native.Mathlib.Omega.{arith}
 use types.Run.{OneOf}
-use mathlib.Core.Path.{◌≡◌, sym, ap, ◌∙◌, subst}
+use mathlib.Core.Path.{◌≡◌, refl, sym, ap, ◌∙◌, subst}
 use mathlib.Core.Logic.{inl, inr}
 use mathlib.Core.Bool.{true, false≢true}
 use mathlib.Core.List.{List, [], ◌∷◌}
@@ -40,6 +40,12 @@ no_more p list at (Operation o next) w e (inl q) = absurd (omega (arith, q))
 no_more p list at (Operation o next) w e (inr q) = absurd (omega (arith, q))
 no_more p list at (Malformed f) w e t = absurd (false≢true (sym (ap is_some (turn-malformed p list at f e.0)) ∙ w))
 no_more p list at End w e t = ap or_none (turn_end p list at e.0)
+
+-- the case of what is handed out where it is no operation
+pub not_operation : (h : Handed) → ((o : Op) (next : ℕ) → h ≡ Operation o next → ⊥) → OneOf (1 ∷ 2 ∷ []) (tag_of the_type h)
+not_operation (Operation o next) k = absurd (k o next refl)
+not_operation (Malformed f) k = inl refl
+not_operation End k = inr refl
 
 module _ (p : ℕ) (m list copy : List ℕ) (at : ℕ) (u : Under p m list copy at) (h : Handed) (hands : HandsOut p list at h) where
   pub under_end : OneOf (1 ∷ 2 ∷ []) (tag_of the_type h) → (rest p list at ≡ []) × (copy ≡ after p m (rest p list 0))

@@ -1,0 +1,9 @@
+-- `tally::any_read` meets its contract.
+use mathlib.Core.Path.{refl}
+use borrow.Author.Rules.{rules}
+use Rattle.tally.specs.Tallies.{any_read}
+use Rattle.tally.proofs.any_read.Goals as goal
+
+pub returns : goal.returns
+unfolding any_read
+returns c = refl
