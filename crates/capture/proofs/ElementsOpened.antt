@@ -1,34 +1,31 @@
 -- A message that is opened and a message that is read: both are refused, or what is left to hand out at first is exactly what is read.
-use Prim.Native.Nat.{ℕ, zero, suc, ◌+◌, ◌-◌, ◌%◌, ◌≤◌, ◌<◌}
+use Prim.Native.Nat.{ℕ, suc, ◌+◌, ◌-◌, ◌%◌, ◌≤◌}
 use native.Mathlib.Omega.{arith}
-use mathlib.Core.Path.{◌≡◌, refl, sym, ap, ap₂, subst, ◌∙◌}
+use mathlib.Core.Path.{◌≡◌, refl, sym, ap, subst, ◌∙◌}
 use mathlib.Core.Logic.{◌⊎◌, inl, inr}
-use mathlib.Core.Bool.{Bool, true, false, cond}
-use mathlib.Core.List.{List, [], ◌∷◌, ◌++◌, append-nil}
+use mathlib.Core.Bool.{cond}
+use mathlib.Core.List.{List, [], ◌∷◌}
 use mathlib.Core.Option.{Option, none, some}
-use lib.ListN.{length, drop}
+use lib.ListN.{length}
 use lib.Dec.{eqb}
 use borrow.Author.Tests.{eq-eqb, ne_eqb}
 use Rattle.meaning.specs.Octets.{be16, part}
 use Rattle.meaning.specs.Reply.{Held, Failed, held_octets, short_octets}
-use Rattle.meaning.specs.Capture.{Capture, capturing, no_capture, merged, then_read, is_there, sized, front_name, front_held, front_failed, read_cause, update_cause, behind_count, until_end_in, until_end, exactly, names_in, status_in, longs_in, result_in, of_element}
+use Rattle.meaning.specs.Capture.{capturing, then_read, front_name, front_held, front_failed, read_cause, update_cause, behind_count, until_end_in, until_end, exactly, names_in, status_in, result_in, of_element}
 use Rattle.meaning.proofs.Lists.{Octets}
 use Rattle.meaning.proofs.Decode.{GoodHeld}
 use Rattle.meaning.proofs.Fronts.{GoodShort, held_front, short_front, held_some}
 use Rattle.meaning.proofs.Backwards.{read_as, count-read, held_came, short_came}
 use Rattle.contents.specs.Spans.{span, octets_of, with_errors, with_values, counted_in}
 use Rattle.contents.specs.declared.Span.{Span}
-use Rattle.contents.specs.declared.Counted.{Counted}
-use Rattle.contents.specs.declared.Counted.TheVariants as Counted
 use Rattle.capture.specs.declared.Cursor.{Cursor}
 use Rattle.capture.specs.declared.Opened.{Opened}
-use Rattle.capture.specs.declared.Opened.TheVariants as Opened
 use Rattle.capture.specs.Opening.{cursor, nothing_left, opened_names, status_of, opened_status, longs_at, with_longs, result_of, opened_result}
 use Rattle.capture.proofs.OneKind.{Whole}
 use Rattle.capture.proofs.WalksAgree.{Kept}
-use Rattle.capture.proofs.LongsOpened.{Even, names_even, LongsOpens, LongsOpen, longs_opens}
+use Rattle.capture.proofs.LongsOpened.{Even, names_even, LongsOpens, longs_opens}
 use Rattle.contents.proofs.Between.{between-length}
-use Rattle.capture.proofs.SpansHold.{CountedWhole, counted-whole}
+use Rattle.capture.proofs.SpansHold.{counted-whole}
 
 abbrev pub empty : Span
 empty = span 0 0

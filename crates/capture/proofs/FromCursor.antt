@@ -1,10 +1,9 @@
 -- From a cursor that holds some records, whole, these are handed out in their order, and then the end.
-use Prim.Native.Nat.{ℕ, zero, suc, ◌+◌, ◌-◌, ◌≤◌, ◌<◌}
+use Prim.Native.Nat.{ℕ, zero, suc, ◌-◌, ◌≤◌, ◌<◌}
 use native.Mathlib.Decide.{dec_le}
 use native.Mathlib.Omega.{arith}
-use mathlib.Core.Path.{◌≡◌, refl, sym, ap, subst, ◌∙◌}
-use mathlib.Core.Bool.{Bool, true, false, cond}
-use mathlib.Core.List.{List, [], ◌∷◌, ◌++◌, map}
+use mathlib.Core.Path.{◌≡◌, sym, ap, ◌∙◌}
+use mathlib.Core.List.{List, [], ◌∷◌}
 use mathlib.Core.Option.{Option, none, some}
 use lib.ListN.{length}
 use Rattle.meaning.specs.Octets.{part}
@@ -19,7 +18,6 @@ use Rattle.capture.specs.declared.Cursor.{Cursor}
 use Rattle.capture.specs.declared.Record.{Record}
 use Rattle.capture.specs.declared.Record.TheVariants.{Name, Value, ReadError, Update, UpdateError, LongUpdate}
 use Rattle.capture.specs.declared.Handed.{Handed}
-use Rattle.capture.specs.declared.Handed.TheVariants as Handed
 use Rattle.capture.specs.Opening.{cursor}
 use Rattle.capture.specs.Handing.{record_of, Inside, handing, valued, failed, handed_name, handed_value, handed_read_error, handed_update, handed_update_error, handed_long_update, handed_at}
 use Rattle.capture.proofs.Handouts.{nothing_next}

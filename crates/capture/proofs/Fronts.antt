@@ -18,16 +18,12 @@ use Rattle.meaning.proofs.Lists.{part-octet}
 use Rattle.contents.specs.Spans.{octets_of, spanned}
 use Rattle.contents.specs.declared.Span.{Span}
 use Rattle.contents.specs.declared.Sized.{Sized}
-use Rattle.contents.specs.declared.Sized.TheVariants as Sized
 use Rattle.contents.proofs.Between.{between, between-length, between-drop, part-at16}
 use Rattle.contents.proofs.Lengths.{Found, found, stands}
 use Rattle.contents.proofs.Records.{held-short, held_cut, held_found}
 use Rattle.capture.specs.declared.Named.{Named}
-use Rattle.capture.specs.declared.Named.TheVariants as Named
 use Rattle.capture.specs.declared.Held.{Held}
-use Rattle.capture.specs.declared.Held.TheVariants as Held
 use Rattle.capture.specs.declared.Failed.{Failed}
-use Rattle.capture.specs.declared.Failed.TheVariants as Failed
 use Rattle.capture.specs.Handing.{front_of, named_by, name_in, held_by, held_in, failed_by, failed_in}
 
 -- ---- a span that is all in the message or not, and has k octets or not

@@ -14,7 +14,6 @@ use Rattle.capture.specs.declared.Cursor.{Cursor}
 use Rattle.capture.specs.declared.Record.{Record}
 use Rattle.capture.specs.declared.Record.TheVariants.{Name}
 use Rattle.capture.specs.declared.Handed.{Handed}
-use Rattle.capture.specs.declared.Handed.TheVariants as Handed
 use Rattle.capture.specs.declared.Named.TheVariants as Named
 use Rattle.capture.specs.declared.Held.TheVariants as Held
 use Rattle.capture.specs.declared.Failed.TheVariants as Failed

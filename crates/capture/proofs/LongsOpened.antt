@@ -1,22 +1,21 @@
 -- Names and long updates that are opened agree with those that are read.
-use Prim.Native.Nat.{ℕ, zero, suc, ◌+◌, ◌-◌, ◌%◌, ◌≤◌, ◌<◌}
+use Prim.Native.Nat.{ℕ, zero, suc, ◌%◌, ◌≤◌, ◌<◌}
 use native.Mathlib.Decide.{ℕ_discrete}
 use native.Mathlib.Omega.{arith}
 use mathlib.Core.Path.{◌≡◌, refl, sym, ap, subst, ◌∙◌}
 use mathlib.Core.Logic.{◌⊎◌, inl, inr}
-use mathlib.Core.Bool.{Bool, true, false, cond}
+use mathlib.Core.Bool.{true}
 use mathlib.Core.List.{List, [], ◌∷◌}
 use mathlib.Core.Option.{Option, none, some}
 use lib.ListN.{length}
-use lib.Dec.{eqb, leb}
+use lib.Dec.{leb}
 use borrow.Author.Tests.{eq-eqb, ne_eqb, le-leb}
-use Rattle.meaning.specs.Octets.{at16, part}
+use Rattle.meaning.specs.Octets.{at16}
 use Rattle.meaning.specs.Reply.{Held}
-use Rattle.meaning.specs.Capture.{then_read, is_there, sized, front_name, front_held, until_end_in, until_end, exactly, longs_in}
+use Rattle.meaning.specs.Capture.{then_read, sized, front_name, front_held, until_end_in, until_end, exactly, longs_in}
 use Rattle.contents.specs.Spans.{span, octets_of, spanned, is_whole}
 use Rattle.contents.specs.declared.Span.{Span}
 use Rattle.contents.specs.declared.Sized.{Sized}
-use Rattle.contents.specs.declared.Sized.TheVariants as Sized
 use Rattle.contents.proofs.Between.{between, between_none, between_front}
 use Rattle.contents.proofs.Lengths.{Found, found, stands}
 use Rattle.capture.specs.Opening.{longs_of, longs_at}

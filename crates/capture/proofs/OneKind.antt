@@ -1,5 +1,5 @@
 -- One kind of record in its span: the first of its records and where it stands, and what is left in the span behind it.
-use Prim.Native.Nat.{ℕ, zero, suc, ◌+◌, ◌-◌, ◌≤◌, ◌<◌}
+use Prim.Native.Nat.{ℕ, ◌+◌, ◌-◌, ◌≤◌, ◌<◌}
 use native.Mathlib.Decide.{dec_le}
 use native.Mathlib.Omega.{arith}
 use mathlib.Core.Path.{◌≡◌, refl, sym, ap, subst, ◌∙◌}
@@ -17,11 +17,10 @@ use Rattle.meaning.proofs.Backwards.{then_came, cond_came, some_same}
 use Rattle.contents.specs.Spans.{span, octets_of, spanned}
 use Rattle.contents.specs.declared.Span.{Span}
 use Rattle.contents.specs.declared.Sized.{Sized}
-use Rattle.contents.specs.declared.Sized.TheVariants as Sized
 use Rattle.contents.proofs.Between.{between, between_none, between-length, between-drop, between_front}
 use Rattle.contents.proofs.Lengths.{Found, found}
 use Rattle.contents.proofs.Records.{held-short, held_cut, held_found}
-use Rattle.contents.proofs.Onward.{held_leaves, until_step}
+use Rattle.contents.proofs.Onward.{until_step}
 use Rattle.capture.specs.Handing.{front_of}
 
 -- ---- where one record ends

@@ -1,26 +1,21 @@
 -- What is opened of contents agrees with what the definition reads in them: both refuse, or the spans hold exactly the records read.
-use Prim.Native.Nat.{ℕ, zero, suc, ◌+◌, ◌-◌, ◌%◌, ◌≤◌, ◌<◌}
+use Prim.Native.Nat.{ℕ, zero, suc, ◌+◌, ◌-◌, ◌≤◌}
 use native.Mathlib.Omega.{arith}
-use mathlib.Core.Path.{◌≡◌, refl, sym, ap, ap₂, subst, ◌∙◌}
-use mathlib.Core.Bool.{Bool, true, false, cond}
+use mathlib.Core.Path.{◌≡◌, refl, sym, ap, ◌∙◌}
 use mathlib.Core.List.{List, [], ◌∷◌, ◌++◌, append_assoc, append-nil, map}
-use mathlib.Core.Option.{Option, none, some}
-use lib.ListN.{length, take, drop, length-append}
+use mathlib.Core.Option.{some}
+use lib.ListN.{length, length-append}
 use lib.Seq.{take_at, drop_at}
-use lib.Dec.{eqb}
-use borrow.Author.Tests.{eq-eqb, ne_eqb}
 use Rattle.meaning.specs.Octets.{part, flat, be16}
-use Rattle.meaning.specs.Reply.{Held, Failed, held_octets, short_octets, failed_octets}
-use Rattle.meaning.specs.Capture.{Capture, capturing, no_capture, then_read, sized, front_name, front_held, front_failed, read_cause, update_cause, behind_count, until_end_in, until_end, exactly, names_in, status_in, longs_in, result_in, of_element}
+use Rattle.meaning.specs.Reply.{Held, Failed, failed_octets}
+use Rattle.meaning.specs.Capture.{then_read, front_held, front_failed, behind_count, until_end_in, until_end}
 use Rattle.meaning.proofs.Lists.{Each, Octets, octets-part}
-use Rattle.meaning.proofs.Decode.{GoodHeld, GoodFailed}
+use Rattle.meaning.proofs.Decode.{GoodFailed}
 use Rattle.meaning.proofs.Fronts.{Front, GoodCause, failed_front, failed_reads, count_front, end_step, end_front}
 use Rattle.meaning.proofs.Backwards.{Came, some_same, reading}
 use Rattle.meaning.proofs.SpeltContents.{CountedSpelt, counted_came}
-use Rattle.contents.specs.Spans.{span, octets_of, with_errors, with_values, counted_in}
+use Rattle.contents.specs.Spans.{span, octets_of}
 use Rattle.contents.specs.declared.Span.{Span}
-use Rattle.contents.specs.declared.Counted.{Counted}
-use Rattle.contents.specs.declared.Counted.TheVariants as Counted
 use Rattle.contents.proofs.Between.{between, between-length, between-part}
 use Rattle.capture.proofs.OneKind.{Whole}
 

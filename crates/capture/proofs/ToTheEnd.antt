@@ -1,15 +1,14 @@
 -- A whole message: it is refused with the number of the definition, or handed out from start to end are exactly the records that the definition reads,
 -- in their order.
-use Prim.Native.Nat.{ℕ, zero, suc, ◌≤◌, ◌<◌}
+use Prim.Native.Nat.{ℕ, suc, ◌≤◌, ◌<◌}
 use native.Mathlib.Decide.{dec_le}
 use native.Mathlib.Omega.{arith}
 use mathlib.Core.Path.{◌≡◌, refl, sym, ap, subst, ◌∙◌}
 use mathlib.Core.Logic.{◌⊎◌, inl, inr}
 use mathlib.Core.Bool.{Bool, true, false, ◌||◌, cond, false≢true}
-use mathlib.Core.List.{List, [], ◌∷◌, append-nil}
+use mathlib.Core.List.{List, [], append-nil}
 use mathlib.Core.Option.{Option, none, some}
 use lib.ListN.{length, drop}
-use lib.Dec.{eqb, leb, ltb}
 use borrow.Author.Tests.{le-leb, lt-leb, leb-true, le-ltb, eqb-false}
 use Rattle.meaning.specs.Octets.{octet}
 use Rattle.meaning.specs.Reply.{Held as OneHeld, Failed as OneFailed}
@@ -18,22 +17,19 @@ use Rattle.meaning.specs.Capture.{Capture, capturing, merged, OneRecord, in_orde
 use Rattle.meaning.specs.Capture as meaning
 use Rattle.meaning.proofs.Lists.{Octets}
 use Rattle.meaning.proofs.Tests.{first-passed}
-use Rattle.contents.specs.Spans.{span, octets_of, standing, spanned, of_walk, walked}
+use Rattle.contents.specs.Spans.{octets_of, spanned, of_walk, walked}
 use Rattle.contents.specs.declared.Span.{Span}
 use Rattle.contents.specs.declared.Sized.{Sized}
-use Rattle.contents.specs.declared.Sized.TheVariants as Sized
 use Rattle.contents.proofs.Between.{between, between_end}
 use Rattle.contents.proofs.Lengths.{Found, found, stands}
 use Rattle.capture.specs.declared.Cursor.{Cursor}
 use Rattle.capture.specs.declared.Handed.{Handed}
-use Rattle.capture.specs.declared.Handed.TheVariants as Handed
 use Rattle.capture.specs.declared.Opened.{Opened}
-use Rattle.capture.specs.declared.Opened.TheVariants as Opened
 use Rattle.capture.specs.Opening.{cursor, nothing_left, when_left, of_elements, opened_status, opened_reply, of_contents, opened_notification}
 use Rattle.capture.specs.Handing.{number_of, handed_at, of_opened, handed_first}
 use Rattle.capture.proofs.Openings.{first_empty, first_too_long, first_unknown}
-use Rattle.capture.proofs.WalksAgree.{Kept, Same, Agree, elements_agree}
-use Rattle.capture.proofs.ElementsOpened.{empty, empty_whole, NamesOpens, NamesOpen, names-opens, StatusOpens, StatusOpen, status-opens, ResultOpens, ResultOpen, result-opens}
+use Rattle.capture.proofs.WalksAgree.{Same, Agree, elements_agree}
+use Rattle.capture.proofs.ElementsOpened.{empty, empty_whole, NamesOpens, NamesOpen, names-opens, StatusOpens, StatusOpen, status-opens, ResultOpens, result-opens}
 use Rattle.capture.proofs.FromCursor.{Holds, Next, ends, hands, next, onward, handed_out, from-cursor}
 
 -- what is opened and what is read: both refused, or the cursor holds exactly the records

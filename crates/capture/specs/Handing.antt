@@ -13,15 +13,10 @@ use Rattle.capture.specs.declared.Cursor.{Cursor}
 use Rattle.capture.specs.declared.Record.{Record}
 use Rattle.capture.specs.declared.Record.TheVariants.{Name, Value, ReadError, Update, UpdateError, LongUpdate}
 use Rattle.capture.specs.declared.Handed.{Handed}
-use Rattle.capture.specs.declared.Handed.TheVariants as Handed
 use Rattle.capture.specs.declared.Opened.{Opened}
-use Rattle.capture.specs.declared.Opened.TheVariants as Opened
 use Rattle.capture.specs.declared.Named.{Named}
-use Rattle.capture.specs.declared.Named.TheVariants as Named
 use Rattle.capture.specs.declared.Held.{Held}
-use Rattle.capture.specs.declared.Held.TheVariants as Held
 use Rattle.capture.specs.declared.Failed.{Failed}
-use Rattle.capture.specs.declared.Failed.TheVariants as Failed
 
 -- the number of what is handed out (RULES 20.4)
 unfoldable pub number_of : Handed → ℕ

@@ -5,14 +5,10 @@ use Rattle.meaning.specs.Capture.{sized}
 use Rattle.contents.specs.Spans.{span, octets_of, spanned, walked, is_whole, counted_in}
 use Rattle.contents.specs.declared.Span.{Span}
 use Rattle.contents.specs.declared.Sized.{Sized}
-use Rattle.contents.specs.declared.Sized.TheVariants as Sized
 use Rattle.contents.specs.declared.Walked.{Walked}
-use Rattle.contents.specs.declared.Walked.TheVariants as Walked
 use Rattle.contents.specs.declared.Counted.{Counted}
-use Rattle.contents.specs.declared.Counted.TheVariants as Counted
 use Rattle.capture.specs.declared.Cursor.{Cursor}
 use Rattle.capture.specs.declared.Opened.{Opened}
-use Rattle.capture.specs.declared.Opened.TheVariants as Opened
 
 abbrev pub cursor : Span → Span → Span → Span → Span → Span → Cursor
 cursor n v e u f l = record { names = n; values = v; read_errors = e; updates = u; update_errors = f; long_updates = l }

@@ -1,6 +1,8 @@
 // Captured messages, replies and notifications, read (RULES 20): `first` says whether a message is accepted and hands out its
 // first record, `next` each further one. Values stay in the message; a record tells where. All octets may be lent and every
 // cursor passed, also one that another message gave: what is handed out then is what the definition finds in its spans.
+#![tactic(auto)]
+
 ghost use Rattle.std.specs.Prelude.{◌≤◌, ◌<◌, ◌≡◌, length};
 ghost use Rattle.meaning.specs.Capture.{update_cause, read_cause};
 ghost use Rattle.capture.specs.Opening.{nothing_left, opened_names, opened_status, longs_at, opened_result, opened_reply, opened_notification};

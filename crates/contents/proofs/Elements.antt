@@ -18,7 +18,6 @@ use Rattle.contents.specs.declared.Span.{Span}
 use Rattle.contents.specs.declared.Contents.{Contents}
 use Rattle.contents.specs.declared.Sized.TheVariants as Sized
 use Rattle.contents.specs.declared.Walked.{Walked}
-use Rattle.contents.specs.declared.Walked.TheVariants as Walked
 use Rattle.contents.specs.Spans.{span, standing, elements_is, kept, of_walk, walked}
 use Rattle.contents.proofs.Between.{between, between_end}
 use Rattle.contents.proofs.Lengths.{Found, stands}

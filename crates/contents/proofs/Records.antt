@@ -12,7 +12,6 @@ use Rattle.meaning.specs.Reply.{Held}
 use Rattle.meaning.specs.Capture.{then_read, is_there, sized, front_held, several, until_end_in, until_end}
 use Rattle.contents.specs.declared.Span.{Span}
 use Rattle.contents.specs.declared.Sized.{Sized}
-use Rattle.contents.specs.declared.Sized.TheVariants as Sized
 use Rattle.contents.specs.declared.Passed.{Passed}
 use Rattle.contents.specs.declared.Passed.TheVariants.{At, CutShort}
 use Rattle.contents.specs.Spans.{octets_of, spanned, place_after, is_whole}

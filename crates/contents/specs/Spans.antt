@@ -6,13 +6,9 @@ use Rattle.meaning.specs.Capture.{is_there, front_held, front_failed, read_cause
 use Rattle.contents.specs.declared.Span.{Span}
 use Rattle.contents.specs.declared.Contents.{Contents}
 use Rattle.contents.specs.declared.Sized.{Sized}
-use Rattle.contents.specs.declared.Sized.TheVariants as Sized
 use Rattle.contents.specs.declared.Passed.{Passed}
-use Rattle.contents.specs.declared.Passed.TheVariants as Passed
 use Rattle.contents.specs.declared.Walked.{Walked}
-use Rattle.contents.specs.declared.Walked.TheVariants as Walked
 use Rattle.contents.specs.declared.Counted.{Counted}
-use Rattle.contents.specs.declared.Counted.TheVariants as Counted
 
 abbrev pub span : ℕ → ℕ → Span
 span a b = record { from = a; to = b }

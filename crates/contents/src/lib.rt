@@ -1,5 +1,7 @@
 // What stands where in a captured message: the elements of a reply that are read, and the records in contents, each by its place.
 // Nothing is kept of the octets but places; the definitions of `Spans` tell them by what `Capture` of `meaning` finds.
+#![tactic(auto)]
+
 ghost use Rattle.std.specs.Prelude.{◌+◌, ◌-◌, ◌≤◌, ◌<◌, ◌≡◌, length};
 ghost use Rattle.meaning.specs.Octets.{part};
 ghost use Rattle.meaning.specs.Block.{as_number};

@@ -1,7 +1,6 @@
 -- `contents::counted_in` meets its contract.
 use native.Mathlib.Omega.{arith}
 use mathlib.Core.Path.{sym, ◌∙◌}
-use borrow.Author.Rules.{rules}
 use Rattle.contents.proofs.Counts.{no_count_lem, values_cut, no_second-count, no_errors, both_there}
 use Rattle.contents.proofs.counted_in.Goals as goal
 
@@ -10,18 +9,18 @@ returns-then-to-from c = no_count_lem _ _ _ (omega arith) (omega arith) c.if-to-
 
 pub returns-in_default : goal.returns-in_default
 returns-in_default c =
-    values_cut _ _ _ (omega (arith, o)) (omega (arith, o)) c.if-to-from.false (sym c.in_default.is ∙ c.pass.ensures)
+    values_cut _ _ _ (omega arith) (omega arith) c.if-to-from.false (sym c.in_default.is ∙ c.pass.ensures)
 
 pub returns-then-to-second : goal.returns-then-to-second
 returns-then-to-second c =
-    no_second-count _ _ _ (omega (arith, o)) (omega (arith, o)) c.if-to-from.false _ (sym c.in-At.is ∙ c.pass.ensures) c.if-to-second.true
+    no_second-count _ _ _ (omega arith) (omega arith) c.if-to-from.false _ (sym c.in-At.is ∙ c.pass.ensures) c.if-to-second.true
 
 pub returns-then-to-errors : goal.returns-then-to-errors
 returns-then-to-errors c =
-    no_errors _ _ _ (omega (arith, o)) (omega (arith, o)) c.if-to-from.false _ (sym c.in-At.is ∙ c.pass.ensures)
+    no_errors _ _ _ (omega arith) (omega arith) c.if-to-from.false _ (sym c.in-At.is ∙ c.pass.ensures)
     _ c.if-to-second.false c.wide-n.ensures.0 c.if-to-errors.true
 
 pub returns : goal.returns
 returns c =
-    both_there _ _ _ (omega (arith, o)) (omega (arith, o)) c.if-to-from.false _ (sym c.in-At.is ∙ c.pass.ensures)
+    both_there _ _ _ (omega arith) (omega arith) c.if-to-from.false _ (sym c.in-At.is ∙ c.pass.ensures)
     _ c.if-to-second.false c.wide-n.ensures.0 c.if-to-errors.false

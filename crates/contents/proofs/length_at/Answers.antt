@@ -1,7 +1,6 @@
 -- `contents::length_at` meets its contract.
 use native.Mathlib.Omega.{arith}
 use mathlib.Core.Path.{◌∙◌}
-use borrow.Author.Rules.{rules}
 use Rattle.contents.proofs.Lengths.{spells_none, spells_one, spells_two}
 use Rattle.contents.proofs.length_at.Goals as goal
 

@@ -1,10 +1,8 @@
 -- `contents::pass` meets its contract. The values left from the next place on end where all end.
-use Prim.Native.Nat.{◌≤◌}
 use native.Mathlib.Omega.{arith}
-use mathlib.Core.Path.{◌≡◌, refl, sym, ◌∙◌}
-use borrow.Author.Rules.{rules}
+use mathlib.Core.Path.{refl, sym, ◌∙◌}
 use Rattle.contents.proofs.Lengths.{found}
-use Rattle.contents.proofs.Records.{end_of, pass_end, pass-short, pass_cut, pass_on}
+use Rattle.contents.proofs.Records.{pass_end, pass-short, pass_cut, pass_on}
 use Rattle.contents.proofs.pass.Goals as goal
 
 pub loop-left-init : goal.loop-left-init
@@ -15,18 +13,18 @@ returns-then-to-next-lt-NAME_LENGTH c = pass-short _ _ _ _ _ (omega arith) (omeg
 
 pub returns-in_default : goal.returns-in_default
 returns-in_default c =
-    let f = found _ _ _ _ (omega (arith, o)) (omega (arith, o)) _ (sym c.in_default.is ∙ c.sized_at.ensures) in
-    pass_cut _ _ _ _ _ (omega (arith, o)) (omega (arith, o)) (omega (arith, o)) f ∙ c.loop-left.invariant.2
+    let f = found _ _ _ _ (omega arith) (omega arith) _ (sym c.in_default.is ∙ c.sized_at.ensures) in
+    pass_cut _ _ _ _ _ (omega arith) (omega arith) (omega arith) f ∙ c.loop-left.invariant.2
 
 pub loop-left-smaller : goal.loop-left-smaller
 loop-left-smaller c = omega arith
 
 pub loop-left-preserved : goal.loop-left-preserved
 loop-left-preserved c =
-    let f = found _ _ _ _ (omega (arith, o)) (omega (arith, o)) _ (sym c.in-Octets.is ∙ c.sized_at.ensures) in (
-      omega (arith, f.1, f.2, o),
+    let f = found _ _ _ _ (omega arith) (omega arith) _ (sym c.in-Octets.is ∙ c.sized_at.ensures) in (
+      omega (arith, f.1, f.2),
       f.3,
-      pass_on _ _ _ _ _ (omega (arith, o)) (omega (arith, o)) _ (omega (arith, o)) f ∙ c.loop-left.invariant.2,
+      pass_on _ _ _ _ _ (omega arith) (omega arith) _ (omega arith) f ∙ c.loop-left.invariant.2,
     )
 
 pub returns : goal.returns

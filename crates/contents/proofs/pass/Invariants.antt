@@ -1,10 +1,7 @@
 -- `contents::pass` meets its contract. The values left from the next place on end where all end.
 use Prim.Native.Nat.{◌≤◌}
-use native.Mathlib.Omega.{arith}
-use mathlib.Core.Path.{◌≡◌, refl, sym, ◌∙◌}
-use borrow.Author.Rules.{rules}
-use Rattle.contents.proofs.Lengths.{found}
-use Rattle.contents.proofs.Records.{end_of, pass_end, pass-short, pass_cut, pass_on}
+use mathlib.Core.Path.{◌≡◌}
+use Rattle.contents.proofs.Records.{end_of}
 use Rattle.contents.proofs.pass.Given as goal
 
 abbrev pub invariant-loop-left : goal.invariant-loop-left

@@ -1,6 +1,5 @@
 -- `contents::sized_at` meets its contract.
 use native.Mathlib.Omega.{arith}
-use borrow.Author.Rules.{rules}
 use Rattle.contents.proofs.Lengths.{no_length, no_value, all_there}
 use Rattle.contents.proofs.sized_at.Goals as goal
 

@@ -1,13 +1,9 @@
 -- `contents::walk` meets its contract. What is to be read from the place on is what was to be read behind the type.
-use Prim.Native.Nat.{◌-◌, ◌≤◌}
 use native.Mathlib.Omega.{arith}
-use mathlib.Core.Path.{◌≡◌, refl, sym, ◌∙◌}
-use lib.ListN.{length, drop}
-use borrow.Author.Rules.{rules}
+use mathlib.Core.Path.{refl, sym, ◌∙◌}
 use Rattle.meaning.specs.Capture.{elements_of}
-use Rattle.contents.specs.Spans.{span, standing}
 use Rattle.contents.proofs.Lengths.{found}
-use Rattle.contents.proofs.Elements.{read_from, walk_cut, walk_on, walked_cut, walked_all}
+use Rattle.contents.proofs.Elements.{walk_cut, walk_on, walked_cut, walked_all}
 use Rattle.contents.proofs.walk.Goals as goal
 
 pub loop-at-init : goal.loop-at-init
@@ -16,18 +12,18 @@ loop-at-init c = (omega arith, c.requires, refl)
 
 pub returns-in_default : goal.returns-in_default
 returns-in_default c =
-    let f = found _ _ _ _ (omega (arith, o)) (omega (arith, o)) _ (sym c.in_default.is ∙ c.sized_at.ensures) in
+    let f = found _ _ _ _ (omega arith) (omega arith) _ (sym c.in_default.is ∙ c.sized_at.ensures) in
     walked_cut _ c.loop-at.k c.loop-at.at c.loop-at.invariant.2
     (walk_cut _ _ _ _ c.loop-at-test.true c.length_octets.ensures.0 f)
 
 pub loop-at-smaller : goal.loop-at-smaller
 loop-at-smaller c =
-    let f = found _ _ _ _ (omega (arith, o)) (omega (arith, o)) _ (sym c.in-Octets.is ∙ c.sized_at.ensures) in
+    let f = found _ _ _ _ (omega arith) (omega arith) _ (sym c.in-Octets.is ∙ c.sized_at.ensures) in
     omega (arith, f.1, f.2, f.3)
 
 pub loop-at-preserved : goal.loop-at-preserved
 loop-at-preserved c =
-    let f = found _ _ _ _ (omega (arith, o)) (omega (arith, o)) _ (sym c.in-Octets.is ∙ c.sized_at.ensures) in (
+    let f = found _ _ _ _ (omega arith) (omega arith) _ (sym c.in-Octets.is ∙ c.sized_at.ensures) in (
       omega (arith, f.1, f.2),
       omega (arith, f.2, f.3),
       walk_on _ _ _ _ c.loop-at-test.true c.length_octets.ensures.0 _ _ f c.keep-k.ensures ∙ c.loop-at.invariant.2,

@@ -1,13 +1,10 @@
 -- `contents::walk` meets its contract. What is to be read from the place on is what was to be read behind the type.
 use Prim.Native.Nat.{◌-◌, ◌≤◌}
-use native.Mathlib.Omega.{arith}
-use mathlib.Core.Path.{◌≡◌, refl, sym, ◌∙◌}
+use mathlib.Core.Path.{◌≡◌}
 use lib.ListN.{length, drop}
-use borrow.Author.Rules.{rules}
 use Rattle.meaning.specs.Capture.{elements_of}
 use Rattle.contents.specs.Spans.{span, standing}
-use Rattle.contents.proofs.Lengths.{found}
-use Rattle.contents.proofs.Elements.{read_from, walk_cut, walk_on, walked_cut, walked_all}
+use Rattle.contents.proofs.Elements.{read_from}
 use Rattle.contents.proofs.walk.Given as goal
 
 abbrev pub invariant-loop-at : goal.invariant-loop-at

@@ -1,11 +1,8 @@
 -- `contents::whole` meets its contract. The octets from the next place on are whole where all are.
 use Prim.Native.Nat.{◌-◌, ◌≤◌}
-use native.Mathlib.Omega.{arith}
-use mathlib.Core.Path.{◌≡◌, refl, sym, ◌∙◌}
-use borrow.Author.Rules.{rules}
+use mathlib.Core.Path.{◌≡◌}
 use Rattle.contents.specs.Spans.{is_whole}
 use Rattle.contents.proofs.Between.{between}
-use Rattle.contents.proofs.Records.{whole_end, whole_cut, whole_on}
 use Rattle.contents.proofs.whole.Given as goal
 
 abbrev pub invariant-loop-next : goal.invariant-loop-next

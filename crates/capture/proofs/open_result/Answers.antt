@@ -1,0 +1,25 @@
+-- `capture::open_result` meets its contract.
+use native.Mathlib.Omega.{arith}
+use mathlib.Core.Path.{sym, ◌∙◌}
+use Rattle.contents.proofs.Counts.{counted_by}
+use Rattle.capture.proofs.Openings.{result_unread, result_cut, result-broken, result_left}
+use Rattle.capture.proofs.open_result.Goals as goal
+
+pub returns-then-p-eq0 : goal.returns-then-p-eq0
+returns-then-p-eq0 c = result_unread _ _ _ c.if-p-eq0.true
+
+pub returns-in_default : goal.returns-in_default
+returns-in_default c =
+    result_cut _ _ _ c.if-p-eq0.false (sym c.in_default.is ∙ c.counted_in.ensures)
+
+pub longs_at-requires : goal.longs_at-requires
+longs_at-requires c =
+    (counted_by _ _ _ _ (sym c.in-Spans.is ∙ c.counted_in.ensures), omega arith)
+
+pub returns-in_default-longs_at : goal.returns-in_default-longs_at
+returns-in_default-longs_at c =
+    result-broken _ _ _ c.if-p-eq0.false _ _ (sym c.in-Spans.is ∙ c.counted_in.ensures) (sym c.in_default-longs_at.is ∙ c.longs_at.ensures)
+
+pub returns : goal.returns
+returns c =
+    result_left _ _ _ c.if-p-eq0.false _ _ (sym c.in-Spans.is ∙ c.counted_in.ensures) _ (sym c.in-Octets.is ∙ c.longs_at.ensures)

@@ -1,0 +1,20 @@
+-- `capture::open_status` meets its contract.
+use native.Mathlib.Omega.{arith}
+use mathlib.Core.Path.{sym, ◌∙◌}
+use Rattle.capture.proofs.Openings.{status_unread, status_cut, status_over, status_left}
+use Rattle.capture.proofs.open_status.Goals as goal
+
+pub returns-then-p-eq0 : goal.returns-then-p-eq0
+returns-then-p-eq0 c = status_unread _ _ _ c.if-p-eq0.true
+
+pub returns-in_default : goal.returns-in_default
+returns-in_default c =
+    status_cut _ _ _ c.if-p-eq0.false (sym c.in_default.is ∙ c.counted_in.ensures)
+
+pub returns-then-errors-p : goal.returns-then-errors-p
+returns-then-errors-p c =
+    status_over _ _ _ c.if-p-eq0.false _ _ (sym c.in-Spans.is ∙ c.counted_in.ensures) (λ x. omega arith)
+
+pub returns : goal.returns
+returns c =
+    status_left _ _ _ c.if-p-eq0.false _ _ (sym c.in-Spans.is ∙ c.counted_in.ensures) c.if-errors-p.false
