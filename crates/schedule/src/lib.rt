@@ -30,7 +30,7 @@ const BLOCK_REST: usize = COUNT_END + RATIO_LENGTH;
 pub const SUMS_LENGTH: usize = 4;
 
 // The two sums over a block.
-#[derive(Drop)]
+#[derive(Clone, Copy)]
 pub struct Sums {
     pub first: u16,
     pub second: u16,

@@ -81,11 +81,11 @@ learnt_knows m Silent k h = h
 
 -- ---- what is kept and learnt, by the code's branches
 
-pub kept_other : (o : Op) (k : RunningSums) → OneOf (0 ∷ 1 ∷ 3 ∷ 4 ∷ 5 ∷ 6 ∷ 7 ∷ 8 ∷ []) (tag_of op.the_type o) → k ≡ kept_after o k
+pub kept_other : (o : Op) (k : RunningSums) → ((n f z : ℕ) → o ≡ Set n f z → ⊥) → k ≡ kept_after o k
 unfolding kept_after
 kept_other Capabilities k t = refl
 kept_other (Read n) k t = refl
-kept_other (Set n f z) k t = absurd (miss (0 ∷ 1 ∷ 3 ∷ 4 ∷ 5 ∷ 6 ∷ 7 ∷ 8 ∷ []) 2 tt t)
+kept_other (Set n f z) k t = absurd (t n f z refl)
 kept_other (Subscribe n) k t = refl
 kept_other (Unsubscribe n) k t = refl
 kept_other (SelectiveRead n f z) k t = refl
@@ -93,10 +93,10 @@ kept_other (SelectiveSubscribe n f z) k t = refl
 kept_other (SelectiveUnsubscribe n f z) k t = refl
 kept_other (DeleteEntry n f z) k t = refl
 
-pub learnt_other : (m : List ℕ) (a : Answer) (k : RunningSums) → OneOf (0 ∷ 2 ∷ 3 ∷ 4 ∷ 5 ∷ []) (tag_of answer.the_type a) → k ≡ learnt_from m a k
+pub learnt_other : (m : List ℕ) (a : Answer) (k : RunningSums) → ((p : ℕ) → a ≡ Value p → ⊥) → k ≡ learnt_from m a k
 unfolding learnt_from
 learnt_other m Names k t = refl
-learnt_other m (Value p) k t = absurd (miss (0 ∷ 2 ∷ 3 ∷ 4 ∷ 5 ∷ []) 1 tt t)
+learnt_other m (Value p) k t = absurd (t p refl)
 learnt_other m (ReadError c) k t = refl
 learnt_other m Update k t = refl
 learnt_other m (UpdateError c) k t = refl

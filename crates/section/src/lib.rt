@@ -22,7 +22,7 @@ use schedule::Sums;
 // ---- the running block's sums, which many reads may ask for
 
 // What is known of them.
-#[derive(Drop)]
+#[derive(Clone, Copy)]
 pub enum RunningSums {
     Unknown,
     Known(Sums),
@@ -71,7 +71,7 @@ fn learnt(m: &[u8], a: Answer, known: RunningSums) -> RunningSums
 // ---- records
 
 // Where the next record of each kind goes.
-#[derive(Drop)]
+#[derive(Clone, Copy)]
 pub struct Places {
     pub values: usize,
     pub read_errors: usize,

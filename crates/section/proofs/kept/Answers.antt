@@ -1,0 +1,18 @@
+-- `section::kept` meets its contract.
+use mathlib.Core.Path.{refl}
+use borrow.Author.Rules.{rules}
+use borrow.Author.Tests.{ne_eqb}
+use Rattle.section.specs.Knowing.{kept_after}
+use Rattle.section.proofs.Knows.{kept_other}
+use Rattle.section.proofs.kept.Goals as goal
+
+pub returns-in_default : goal.returns-in_default
+returns-in_default c = kept_other c.args.op c.args.known c.in_default.not-Set
+
+pub returns-then-name-eq-COMMIT_NAME : goal.returns-then-name-eq-COMMIT_NAME
+unfolding kept_after
+returns-then-name-eq-COMMIT_NAME c = rw (c.in-Set.is, c.if-name-eq-COMMIT_NAME.true) refl
+
+pub returns-else-name-eq-COMMIT_NAME : goal.returns-else-name-eq-COMMIT_NAME
+unfolding kept_after
+returns-else-name-eq-COMMIT_NAME c = rw (c.in-Set.is, ne_eqb _ 0x8001 c.if-name-eq-COMMIT_NAME.false)
