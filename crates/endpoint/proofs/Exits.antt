@@ -116,9 +116,9 @@ module _ (p : ℕ) (m room : List ℕ) (s : sound_in p m ≡ true) (h : 1600 ≤
 
 -- ---- what is said of an outcome
 
-pub nothing_written : (r : Outcome) → OneOf (1 ∷ 2 ∷ 3 ∷ 4 ∷ 5 ∷ 6 ∷ 7 ∷ 8 ∷ 9 ∷ 10 ∷ 11 ∷ 12 ∷ 13 ∷ 14 ∷ 15 ∷ []) (tag_of the_type r) → length_of r ≡ 0
+pub nothing_written : (r : Outcome) → ((n : ℕ) → r ≡ Done n → ⊥) → length_of r ≡ 0
 unfolding length_of
-nothing_written (Done n) t = absurd (miss (1 ∷ 2 ∷ 3 ∷ 4 ∷ 5 ∷ 6 ∷ 7 ∷ 8 ∷ 9 ∷ 10 ∷ 11 ∷ 12 ∷ 13 ∷ 14 ∷ 15 ∷ []) 0 tt t)
+nothing_written (Done n) t = absurd (t n refl)
 nothing_written MemoryUnsound t = refl
 nothing_written MessageEmpty t = refl
 nothing_written MessageTooLong t = refl
@@ -135,7 +135,7 @@ nothing_written ProfileUnknown t = refl
 nothing_written SendAgain t = refl
 nothing_written GivenUp t = refl
 
-pub nowhere : (r : Outcome) → OneOf (0 ∷ 1 ∷ 2 ∷ 3 ∷ 4 ∷ 5 ∷ 7 ∷ 8 ∷ 9 ∷ 10 ∷ 11 ∷ 12 ∷ 13 ∷ 14 ∷ 15 ∷ []) (tag_of the_type r) → position_of r ≡ 0
+pub nowhere : (r : Outcome) → ((p : ℕ) → r ≡ OperationMalformed p → ⊥) → position_of r ≡ 0
 unfolding position_of
 nowhere (Done n) t = refl
 nowhere MemoryUnsound t = refl
@@ -143,7 +143,7 @@ nowhere MessageEmpty t = refl
 nowhere MessageTooLong t = refl
 nowhere TypeUnknown t = refl
 nowhere LengthWrong t = refl
-nowhere (OperationMalformed p) t = absurd (miss (0 ∷ 1 ∷ 2 ∷ 3 ∷ 4 ∷ 5 ∷ 7 ∷ 8 ∷ 9 ∷ 10 ∷ 11 ∷ 12 ∷ 13 ∷ 14 ∷ 15 ∷ []) 6 tt t)
+nowhere (OperationMalformed p) t = absurd (t p refl)
 nowhere ReplyDoesNotFit t = refl
 nowhere Idle t = refl
 nowhere NothingPending t = refl

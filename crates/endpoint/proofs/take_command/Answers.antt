@@ -1,0 +1,81 @@
+-- `endpoint::take_command` meets its contract.
+use Prim.Native.Nat.{ℕ, ◌+◌, ◌-◌, ◌*◌, ◌<◌}
+use native.Mathlib.Omega.{arith}
+use mathlib.Core.Path.{◌≡◌, refl, sym, ap, ◌∙◌}
+use mathlib.Core.Logic.{inl, inr}
+use lib.ListN.{length, take, drop, length-take}
+use borrow.Author.Rules.{rules}
+use Rattle.meaning.specs.Octets.{octet, at16}
+use Rattle.meaning.specs.Calls.{number_only, operations, located}
+use Rattle.meaning.proofs.Profiles.{in_sound}
+use Rattle.meaning.proofs.Numbers.{Taken, Measured, message_5, message_6}
+use Rattle.endpoint.specs.Outcomes.{number_of, length_of, position_of}
+use Rattle.endpoint.specs.declared.Outcome.TheVariants.{LengthWrong}
+use Rattle.operation.specs.Handing.{wholeness}
+use Rattle.operation.proofs.Turns.{whole_some, broken_none}
+use Rattle.endpoint.proofs.Exits.{gives_number, gives_broken, list_is, not_whole, message-command}
+use Rattle.endpoint.proofs.take_command.Goals as goal
+use Rattle.endpoint.proofs.take_command.Goals.{After-list-1, After-whole, Else-sent-n, Start}
+
+taken : (c : Start) → Taken c.args.profile c.args.memory.now c.args.sent.now
+taken c = record { is_sound = c.requires.0; nonzero = c.requires.1; short = c.requires.2 }
+
+-- L is there, not 0, and not past the end
+measured : (c : Else-sent-n) → Measured c.args.profile c.args.memory.now c.args.sent.now
+unfolding at16
+measured c =
+    let l = c.get16-n.ensures.0 in
+    record {
+      taken = (let it : Taken c.args.profile c.args.memory.now c.args.sent.now = record { is_sound = c.requires.0; nonzero = c.requires.1; short = c.requires.2 } in it);
+      type = c.requires.3;
+      there = c.if-sent-lt-COMMAND_HEAD.false;
+      not_zero = omega (arith, l, c.if-n-eq0.false);
+      inside = omega (arith, l, c.if-sent-n.false);
+    }
+
+-- the operations as they are lent on
+lent : (c : After-list-1) → take (3 + c.get16-n.result - 3) (drop 3 c.args.sent.now) ≡ operations c.args.sent.now
+lent c = list_is c.args.sent.now c.get16-n.result c.get16-n.ensures.0
+
+-- what is told of the operations
+told : (c : After-whole) → c.whole.result ≡ wholeness c.args.profile (operations c.args.sent.now)
+told c = c.whole.ensures ∙ ap (wholeness c.args.profile) ((let it : take (3 + c.get16-n.result - 3) (drop 3 c.args.sent.now) ≡ operations c.args.sent.now = list_is c.args.sent.now c.get16-n.result c.get16-n.ensures.0 in it))
+
+pub returns-then-sent-lt-COMMAND_HEAD : goal.returns-then-sent-lt-COMMAND_HEAD
+unfolding number_of length_of position_of
+returns-then-sent-lt-COMMAND_HEAD c =
+    let a = c.args in
+    gives_number a.memory.now a.room.now 5 LengthWrong (message_5 a.profile a.memory.now a.sent.now a.room.now (taken (goal.at.returns-then-sent-lt-COMMAND_HEAD c).Start) c.requires.3 (inl c.if-sent-lt-COMMAND_HEAD.true)) refl refl refl
+
+pub returns-then-n-eq0 : goal.returns-then-n-eq0
+unfolding number_of length_of position_of at16
+returns-then-n-eq0 c =
+    let a = c.args in
+    gives_number a.memory.now a.room.now 5 LengthWrong
+    (message_5 a.profile a.memory.now a.sent.now a.room.now (taken (goal.at.returns-then-n-eq0 c).Start) c.requires.3 (inr (inl (sym c.get16-n.ensures.0 ∙ c.if-n-eq0.true)))) refl refl refl
+
+pub returns-then-sent-n : goal.returns-then-sent-n
+unfolding number_of length_of position_of at16
+returns-then-sent-n c =
+    let a = c.args in
+    let h : length a.sent.now < 3 + (octet a.sent.now 1 * 256 + octet a.sent.now 2) = omega (arith, c.if-sent-n.true, c.get16-n.ensures.0) in
+    gives_number a.memory.now a.room.now 5 LengthWrong (message_5 a.profile a.memory.now a.sent.now a.room.now (taken (goal.at.returns-then-sent-n c).Start) c.requires.3 (inr (inr h))) refl refl refl
+
+pub carry_out-requires : goal.carry_out-requires
+carry_out-requires c =
+    (in_sound _ _ c.requires.0, whole_some _ _ (sym c.in-Whole.is ∙ c.whole.ensures), rw length-take (omega (arith, c.requires.2, c.if-sent-n.false)))
+
+pub returns-in-Whole : goal.returns-in-Whole
+returns-in-Whole c =
+    let a = c.args in
+    let w = whole_some _ _ (sym c.in-Whole.is ∙ told (goal.at.returns-in-Whole c).After-whole) in
+    let e = message-command a.profile a.memory.now a.sent.now a.room.now (measured (goal.at.returns-in-Whole c).Else-sent-n) w in
+    rw (e, sym (lent (goal.at.returns-in-Whole c).After-list-1)) c.carry_out.ensures
+
+pub returns-in-Broken : goal.returns-in-Broken
+returns-in-Broken c =
+    let a = c.args in
+    let b = broken_none _ _ _ (sym c.in-Broken.is ∙ told (goal.at.returns-in-Broken c).After-whole) in
+    gives_broken a.memory.now a.room.now _
+    (message_6 a.profile a.memory.now a.sent.now a.room.now (measured (goal.at.returns-in-Broken c).Else-sent-n) (not_whole _ b.0)
+    ∙ ap (λ (p : ℕ). located p (number_only 6 a.memory.now a.room.now)) (sym b.1))
