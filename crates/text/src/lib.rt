@@ -1,5 +1,7 @@
 // Lines of text, written at a place of a room. Each function returns the place after what it wrote, and says by a
 // definition of `Lines` what every octet of the room holds afterwards.
+#![tactic(auto)]
+
 ghost use Rattle.std.specs.Prelude.{◌+◌, ◌≤◌, ◌<◌, ◌≡◌, length};
 ghost use Rattle.octets.specs.Writing.{Wrote};
 ghost use Rattle.text.specs.Lines.{digit as Lines·digit, hex, decimal, shown_octets, octets_line, line, long_decimal, lent_line, field, full_line, wide_decimal, wide_field, octet_field, open_line};
