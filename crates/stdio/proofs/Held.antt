@@ -12,10 +12,8 @@ use borrow.Author.Tests.{le-leb, lt-leb}
 use Rattle.meaning.specs.Octets.{at16, part, splice}
 use Rattle.meaning.proofs.Lists.{length_part}
 use Rattle.octets.proofs.Splices.{splice_front}
-use Rattle.stdio.specs.Pieces.{needed, next_at, Reads, Continues}
+use Rattle.stdio.specs.Pieces.{needed, next_at, Continues}
 use Rattle.stdio.specs.declared.Next.TheVariants.{Whole, More}
-use Rattle.stdio.specs.declared.Got.{Got}
-use Rattle.stdio.specs.declared.Got.TheVariants.{Octets}
 use Rattle.stdio.specs.declared.Input.{Input}
 use Rattle.stdio.specs.declared.Input.TheVariants.{Held}
 
@@ -54,12 +52,6 @@ module _ (s : List ℕ) (from head : ℕ) {n : ℕ} (e : n ≡ needed s from hea
   pub next_more : length s < from + n → More ≡ next_at s from head
   unfolding next_at
   next_more h = rw (← e, lt-leb (from + n) (length s) h)
-
--- what is known where a read brought octets
-pub brought : (block : List ℕ) (at : ℕ) (block' : List ℕ) {n : ℕ} {r : Got} → r ≡ Octets n → Reads block at r block' → (1 ≤ n) × (at + n ≤ length block)
-brought block at block' {n} e f =
-    let g : Reads block at (Octets n) block' = rw e at f in
-    g.1
 
 -- ---- octets moved to the front
 

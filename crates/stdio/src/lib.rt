@@ -1,12 +1,14 @@
 // Standard input in pieces that tell their own length, lines to standard output, and a line on standard error where either
 // cannot be had. A piece is a head, whose last two octets are the length of the body after it. Input is read in large
 // blocks; what is left of a piece moves to the front before more is read after it.
+#![tactic(auto)]
+
 ghost use Rattle.std.specs.Prelude.{◌+◌, ◌-◌, ◌≤◌, ◌<◌, ◌≡◌, length};
 ghost use Rattle.meaning.specs.Octets.{part, splice};
 ghost use Rattle.octets.specs.Writing.{Wrote};
 ghost use Rattle.stdio.specs.Pieces.{next_at, Reads, Continues, cutLine};
 
-use libc::{STDERR_FILENO, STDIN_FILENO, STDOUT_FILENO};
+use std::io::{Read, Write};
 
 // ---- what is held
 
@@ -59,17 +61,22 @@ pub fn write_cut(out: &mut [u8], at: usize) -> usize
 // ---- what is written and read. What goes out and comes in no contract can say
 
 // A line on standard error: a program's name, and what it cannot do. Where this cannot be written either, nobody is told.
-fn complain(name: &[u8], what: &[u8]) {
-    io::write_all(STDERR_FILENO, name);
-    io::write_all(STDERR_FILENO, what);
+fn complain(errors: &mut impl Write, name: &[u8], what: &[u8]) {
+    let _ = errors.write_all(name);
+    let _ = errors.write_all(what);
 }
 
 // Lines written to standard output; whether they could be. Where not, it has been said under the program's name.
-pub fn write_out(lines: &[u8], name: &[u8]) -> bool {
-    if io::write_all(STDOUT_FILENO, lines) {
+pub fn write_out(
+    output: &mut impl Write,
+    errors: &mut impl Write,
+    lines: &[u8],
+    name: &[u8],
+) -> bool {
+    if output.write_all(lines).is_ok() {
         return true;
     }
-    complain(name, b": standard output cannot be written\n");
+    complain(errors, name, b": standard output cannot be written\n");
     false
 }
 
@@ -82,28 +89,31 @@ pub enum Got {
 }
 
 // Reads once, to a place and after it; the octets before it stay.
-pub fn read_on(block: &mut [u8], at: usize, name: &[u8]) -> Got
+pub fn read_on(
+    input: &mut impl Read,
+    errors: &mut impl Write,
+    block: &mut [u8],
+    at: usize,
+    name: &[u8],
+) -> Got
     requires { at ≤ length block.old }
     ensures { Reads block.old at result block.new }
 {
-    let rest = &mut block[at..];
-    let got = libc::read(STDIN_FILENO, rest);
-    if got < 0 {
-        complain(name, b": standard input cannot be read\n");
-        return Got::Failed;
+    match input.read(&mut block[at..]) {
+        Ok(0) => Got::End,
+        Ok(n) => Got::Octets(n),
+        Err(_) => {
+            complain(errors, name, b": standard input cannot be read\n");
+            Got::Failed
+        }
     }
-    let n = io::count(got, rest);
-    if n == 0 {
-        return Got::End;
-    }
-    Got::Octets(n)
 }
 
 // `cut` written out by itself.
-fn write_out_cut(name: &[u8]) {
+fn write_out_cut(output: &mut impl Write, errors: &mut impl Write, name: &[u8]) {
     let mut line = [0u8; 4];
     write_cut(&mut line, 0);
-    write_out(&line, name);
+    write_out(output, errors, &line, name);
 }
 
 // Where the input goes on: octets are held from the front up to a place. Else it is over: it has ended, and `cut` has been
@@ -116,16 +126,24 @@ pub enum Input {
 
 // Reads more behind what is left, the octets between two places, which first go to the front. They are fewer than the
 // block has, or a read of no octets would look like the input's end.
-pub fn read_more(block: &mut [u8], from: usize, to: usize, name: &[u8]) -> Input
+pub fn read_more(
+    input: &mut impl Read,
+    output: &mut impl Write,
+    errors: &mut impl Write,
+    block: &mut [u8],
+    from: usize,
+    to: usize,
+    name: &[u8],
+) -> Input
     requires { (from ≤ to) × (to ≤ length block.old) × (to < from + length block.old) }
     ensures { Continues block.old from to result block.new }
 {
     let left = to_front(block, from, to);
-    match read_on(block, left, name) {
+    match read_on(input, errors, block, left, name) {
         Got::Octets(n) => Input::Held(left + n),
         Got::End => {
             if left > 0 {
-                write_out_cut(name);
+                write_out_cut(output, errors, name);
             }
             Input::Over
         }
