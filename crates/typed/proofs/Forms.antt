@@ -1,4 +1,4 @@
--- An octet taken: forms as a `match` tells them, octets that are kept, and a law for each way in which a line goes on.
+-- An octet taken: forms that a `match` does not name, octets that are kept, and a law for each way in which a line goes on.
 use Prim.Native.Nat.{ℕ, ◌+◌, ◌*◌, ◌≤◌, ◌<◌}
 use native.Mathlib.Numerals.{add-one}
 use native.Mathlib.Omega.{arith}
@@ -9,8 +9,6 @@ use lib.ListN.{length, take, set, length-append}
 use lib.Seq.{take-suc-set, take_all, take-append-le, length-take-le}
 use lib.Dec.{eqb, ltb}
 use borrow.Author.Tests.{ltb-true, ne_eqb}
-use types.Run.{OneOf, miss}
-use denote.Enum.Declared.{tag_of}
 use Rattle.meaning.proofs.Tests.{and_left, and_right}
 use Rattle.typed.specs.declared.Sign.{Sign}
 use Rattle.typed.specs.declared.Sign.TheVariants.{Hex, Space, Dash, Stray}
@@ -20,27 +18,20 @@ use Rattle.typed.specs.declared.Line.{Line}
 use Rattle.typed.specs.Signs.{sign_of}
 use Rattle.typed.specs.Forms.{by_sign, paired, form_after, completed_by, completed, Small, Keeps, Stores, Takes, typed}
 use Rattle.typed.proofs.Signs.{SmallSign, small_sign}
-use Rattle.typed.specs.contracts.Form.{the_type}
 
--- ---- the forms that a `match` does not name, by their numbers in the order in which they are declared
+-- ---- the forms that a `match` does not name
 
-abbrev Told : List ℕ → Form → Type 0
-Told ks f = OneOf ks (tag_of the_type f)
-
-abbrev undashed : List ℕ
-undashed = 0 ∷ 1 ∷ 3 ∷ 5 ∷ 6 ∷ 7 ∷ 8 ∷ []
-
-pub no_dash : (f : Form) → Told undashed f → form_after f Dash ≡ Other
+pub no_dash : (f : Form) → ((n : ℕ) → f ≡ Lead n → ⊥) → ((n : ℕ) → f ≡ Numbered n → ⊥) → form_after f Dash ≡ Other
 unfolding form_after by_sign
-no_dash Blank k = refl
-no_dash (Digit h) k = refl
-no_dash (Lead n) k = absurd (miss undashed 2 (tt {0}) k)
-no_dash (Number n) k = refl
-no_dash (Numbered n) k = absurd (miss undashed 4 (tt {0}) k)
-no_dash Octets k = refl
-no_dash (Half h) k = refl
-no_dash (Refused n) k = refl
-no_dash Other k = refl
+no_dash Blank k l = refl
+no_dash (Digit h) k l = refl
+no_dash (Lead n) k l = absurd (k n refl)
+no_dash (Number n) k l = refl
+no_dash (Numbered n) k l = absurd (l n refl)
+no_dash Octets k l = refl
+no_dash (Half h) k l = refl
+no_dash (Refused n) k l = refl
+no_dash Other k l = refl
 
 pub stray_makes_other : (f : Form) → Other ≡ form_after f Stray
 unfolding form_after by_sign
@@ -54,20 +45,17 @@ stray_makes_other (Half h) = refl
 stray_makes_other (Refused n) = refl
 stray_makes_other Other = refl
 
-abbrev unstarted : List ℕ
-unstarted = 0 ∷ 2 ∷ 3 ∷ 4 ∷ 5 ∷ 7 ∷ 8 ∷ []
-
-pub no_octet : (f : Form) (d : ℕ) → Told unstarted f → completed_by f d ≡ []
+pub no_octet : (f : Form) (d : ℕ) → ((h : ℕ) → f ≡ Digit h → ⊥) → ((h : ℕ) → f ≡ Half h → ⊥) → completed_by f d ≡ []
 unfolding completed_by
-no_octet Blank d k = refl
-no_octet (Digit h) d k = absurd (miss unstarted 1 (tt {0}) k)
-no_octet (Lead n) d k = refl
-no_octet (Number n) d k = refl
-no_octet (Numbered n) d k = refl
-no_octet Octets d k = refl
-no_octet (Half h) d k = absurd (miss unstarted 6 (tt {0}) k)
-no_octet (Refused n) d k = refl
-no_octet Other d k = refl
+no_octet Blank d k l = refl
+no_octet (Digit h) d k l = absurd (k h refl)
+no_octet (Lead n) d k l = refl
+no_octet (Number n) d k l = refl
+no_octet (Numbered n) d k l = refl
+no_octet Octets d k l = refl
+no_octet (Half h) d k l = absurd (l h refl)
+no_octet (Refused n) d k l = refl
+no_octet Other d k l = refl
 
 -- ---- octets that are kept
 
@@ -98,12 +86,12 @@ small_if : (b : Bool) (f g : Form) → (b ≡ true → Small f) → Small g → 
 small_if true f g h k = h refl
 small_if false f g h k = k
 
-small_by : (s : Sign) (digit : ℕ → Form) (blank dash : Form) → SmallSign s → ((d : ℕ) → d < 16 → Small (digit d)) → Small blank → Small dash → Small (by_sign s digit blank dash)
+small_by : (s : Sign) (digit : ℕ → Form) (space dash : Form) → SmallSign s → ((d : ℕ) → d < 16 → Small (digit d)) → Small space → Small dash → Small (by_sign s digit space dash)
 unfolding by_sign
-small_by (Hex d) digit blank dash k f g h = f d k
-small_by Space digit blank dash k f g h = g
-small_by Dash digit blank dash k f g h = h
-small_by Stray digit blank dash k f g h = tt
+small_by (Hex d) digit space dash k f g h = f d k
+small_by Space digit space dash k f g h = g
+small_by Dash digit space dash k f g h = h
+small_by Stray digit space dash k f g h = tt
 
 small_pair : (h d : ℕ) → Small (paired h d)
 unfolding paired

@@ -90,7 +90,7 @@ decoded Stray v e h = absurd (omega (arith, leb-true 16 v e))
 
 -- no digit, and none of the octets that a `match` names
 abbrev pub Unnamed : ℕ → Type 0
-Unnamed c = (((Unit {0} × (c ≡ 32 → ⊥)) × (c ≡ 9 → ⊥)) × (c ≡ 13 → ⊥)) × (c ≡ 45 → ⊥)
+Unnamed c = (c ≡ 32 → ⊥) × (c ≡ 9 → ⊥) × (c ≡ 13 → ⊥) × (c ≡ 45 → ⊥)
 
 module _ (c v : ℕ) (e : decodes (sign_of c) v ≡ true) (h : 16 ≤ v) where
   no_digit : (d : ℕ) → sign_of c ≡ Hex d → ⊥
@@ -103,7 +103,7 @@ module _ (c v : ℕ) (e : decodes (sign_of c) v ≡ true) (h : 16 ≤ v) where
       let d : between "0" "9" c ≡ false = not-true _ (λ t. no_digit (c - 48) (rw t)) in
       let l : between "a" "f" c ≡ false = not-true _ (λ t. no_digit (c - 97 + 10) (rw (d, t))) in
       let u : between "A" "F" c ≡ false = not-true _ (λ t. no_digit (c - 65 + 10) (rw (d, l, t))) in
-      rw (d, l, u, ne_eqb c 32 r.0.0.0.1, ne_eqb c 9 r.0.0.1, ne_eqb c 13 r.0.1, ne_eqb c 45 r.1)
+      rw (d, l, u, ne_eqb c 32 r.0, ne_eqb c 9 r.1, ne_eqb c 13 r.2, ne_eqb c 45 r.3)
 
 -- ---- octets of a line's text: a digit, a blank or `-`, and so not `#` nor a line feed
 

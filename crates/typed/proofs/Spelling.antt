@@ -147,7 +147,7 @@ unfolding typed_all completed
 blanks [] stays g h r = r
 blanks {P} {t} {o} (c ∷ b) stays g h r =
     let s : Reads P (typed t c) (o ++ []) = step c Space [] (sign_blank c g.0) tt r (stays _ r.form) refl (omega arith) in
-    blanks b stays g.1 h (rw append-nil at s)
+    blanks {P = P} {t = typed t c} {o = o} b stays g.1 h (rw append-nil at s)
 
 pair : {t : Typed} {o : List ℕ} (p : Pair) → Good p → length o < 4097 → Reads Open t o → Reads Whole (typed_all t (spelling p)) (o ++ (p.octet ∷ []))
 unfolding typed_all
@@ -171,7 +171,7 @@ pairs {t} {o} (p ∷ ps) g h r =
     let s = pair p g.0 (omega arith) w in
     let n : length (o ++ (p.octet ∷ [])) ≡ length o + 1 = simp length-append in
     rw (typed-append t (spelling p) (flat spelling ps), sym (append_assoc o (p.octet ∷ []) (map (λ q. q.octet) ps)))
-    (pairs ps g.1 (omega arith) s)
+    (pairs {t = typed_all t (spelling p)} {o = o ++ (p.octet ∷ [])} ps g.1 (omega arith) s)
 
 -- octets from a form in which they may begin, and blanks behind them
 octets-read : (t : Typed) (p : Pair) (ps : List Pair) (end : List ℕ) → Reads Open t [] → Each Good (p ∷ ps) → Blanks end → length (p ∷ ps) ≤ 4097

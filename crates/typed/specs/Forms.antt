@@ -12,10 +12,10 @@ use Rattle.typed.specs.Signs.{sign_of}
 
 -- by what the octet is: a digit, a blank, `-`; with anything else a line stands for nothing
 unfoldable pub by_sign : Sign → (ℕ → Form) → Form → Form → Form
-by_sign (Hex d) digit blank dash = digit d
-by_sign Space digit blank dash = blank
-by_sign Dash digit blank dash = dash
-by_sign Stray digit blank dash = Other
+by_sign (Hex d) digit space dash = digit d
+by_sign Space digit space dash = space
+by_sign Dash digit space dash = dash
+by_sign Stray digit space dash = Other
 
 -- two digits at a line's start: an octet, and a number too if both are decimal
 unfoldable pub paired : ℕ → ℕ → Form

@@ -1,5 +1,7 @@
 // What a line of input stands for (RULES 21), found octet by octet, so that a line of any length is taken with a room of 4,097
 // octets. Each function says by a definition of `Forms` what it makes of a line.
+#![tactic(auto)]
+
 ghost use Rattle.std.specs.Prelude.{◌≤◌, ◌<◌, ◌≡◌, true, ◌∷◌, [], length};
 ghost use Rattle.typed.specs.Signs.{sign_of, decodes};
 ghost use Rattle.typed.specs.Forms.{paired as Forms·paired, form_after, completed_by, Starts, Small, Keeps, Stores, Takes};
@@ -18,7 +20,7 @@ pub enum Sign {
 }
 
 // What a line stands for so far.
-#[derive(Drop)]
+#[derive(Clone, Copy)]
 pub enum Form {
     // Nothing but blanks.
     Blank,
