@@ -1,9 +1,12 @@
 // The program `bridge` (RULES 16): frames from standard input, one line a frame to standard output, over one memory.
 // Input is read in large blocks, and lines are written out in blocks.
+#![tactic(auto)]
+
 ghost use Rattle.std.specs.Prelude.{◌≤◌, ◌≡◌, false, length};
 ghost use Rattle.stdio.specs.Taking.{Batched};
 ghost use Rattle.bridge.specs.Frames.{frames, port, Serves};
 
+use std::io::{Read, Write};
 use stdio::{Input, Next};
 
 // Octets of a frame's length.
@@ -55,14 +58,21 @@ fn answer_frames(
 
 // Answers every whole frame that is held. All lines are written out at the end, so that a peer which waits for them has
 // them before the next read.
-fn serve(memory: &mut [u8], held: &[u8], room: &mut [u8], out: &mut [u8]) -> Served
+fn serve(
+    output: &mut impl Write,
+    errors: &mut impl Write,
+    memory: &mut [u8],
+    held: &[u8],
+    room: &mut [u8],
+    out: &mut [u8],
+) -> Served
     requires { (length room.old ≡ 4096) × (length out.old ≡ 73733) }
     ensures { Serves held.now (port memory.old room.old 0) result memory.new room.new }
 {
     let mut from = 0;
     loop {
         let batch = answer_frames(memory, held, from, room, out);
-        if !stdio::write_out(&out[..batch.at], b"bridge") {
+        if !stdio::write_out(output, errors, &out[..batch.at], b"bridge") {
             return Served::Closed;
         }
         from = batch.from;
@@ -72,20 +82,28 @@ fn serve(memory: &mut [u8], held: &[u8], room: &mut [u8], out: &mut [u8]) -> Ser
     }
 }
 
-// Reads and answers until the input ends. A proved loop has to end, and nothing says that input does: so the loop counts
-// its turns down, from a number that no run uses up.
-fn run(memory: &mut [u8], block: &mut [u8], room: &mut [u8], out: &mut [u8])
+// Reads and answers until the input ends. A proved loop has to end, and nothing says that input does: so the loop has a
+// number of turns that no run uses up.
+fn run(
+    input: &mut impl Read,
+    output: &mut impl Write,
+    errors: &mut impl Write,
+    memory: &mut [u8],
+    block: &mut [u8],
+    room: &mut [u8],
+    out: &mut [u8],
+)
     requires { (length block.old ≡ 131072) × (length room.old ≡ 4096) × (length out.old ≡ 73733) }
 {
     let mut from = 0;
     let mut to = 0;
-    let mut turns = u64::MAX;
-    while turns > 0 {
-        turns -= 1;
-        let Input::Held(end) = stdio::read_more(block, from, to, b"bridge") else {
+    for _ in 0..u64::MAX {
+        let more = stdio::read_more(input, output, errors, block, from, to, b"bridge");
+        let Input::Held(end) = more else {
             return;
         };
-        let Served::Rest(rest) = serve(memory, &block[..end], room, out) else {
+        let served = serve(output, errors, memory, &block[..end], room, out);
+        let Served::Rest(rest) = served else {
             return;
         };
         from = rest;
@@ -93,11 +111,19 @@ fn run(memory: &mut [u8], block: &mut [u8], room: &mut [u8], out: &mut [u8])
     }
 }
 
-fn main() {
+fn main(rt: HostRuntime) {
     let mut memory = [0u8; endpoint::MEMORY_LENGTH];
     endpoint::make_fresh(&mut memory, endpoint::RELEASE_18);
     let mut block = [0u8; INPUT];
     let mut room = [0u8; endpoint::REPLY_MOST];
     let mut out = [0u8; DUE + LINE];
-    run(&mut memory, &mut block, &mut room, &mut out);
+    run(
+        &mut rt.stdin(),
+        &mut rt.stdout(),
+        &mut rt.stderr(),
+        &mut memory,
+        &mut block,
+        &mut room,
+        &mut out,
+    );
 }

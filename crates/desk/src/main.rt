@@ -1,5 +1,7 @@
 // The program `desk` (RULES 21): lines of text from standard input, to standard output what each of them stands for. Input is
 // read in large blocks, and what is printed is written out in blocks. Of a line that goes on no octet of text is kept.
+#![tactic(auto)]
+
 ghost use Rattle.std.specs.Prelude.{◌+◌, ◌≤◌, ◌<◌, ◌≡◌, [], length, take};
 ghost use Rattle.octets.specs.Writing.{Wrote};
 ghost use Rattle.text.specs.Lines.{line};
@@ -7,6 +9,7 @@ ghost use Rattle.words.specs.Lines.{message_lines};
 ghost use Rattle.typed.specs.Forms.{typed_in, Keeps};
 ghost use Rattle.desk.specs.Lines.{answer_of, Batched, Serves};
 
+use std::io::{Read, Write};
 use stdio::Got;
 use typed::{Form, Line};
 
@@ -94,7 +97,14 @@ fn answer_lines(octets: &mut [u8], line: Line, held: &[u8], from: usize, out: &m
 
 // Takes all that is held. What is printed is written out at the end, so that a peer which waits for it has it before the next
 // read.
-fn serve(octets: &mut [u8], line: Line, held: &[u8], out: &mut [u8]) -> Served
+fn serve(
+    output: &mut impl Write,
+    errors: &mut impl Write,
+    octets: &mut [u8],
+    line: Line,
+    held: &[u8],
+    out: &mut [u8],
+) -> Served
     requires { Keeps octets.old line × (length out.old ≡ 131081) }
     ensures { Serves held.now (typed_in octets.old line) result octets.new }
 {
@@ -103,7 +113,7 @@ fn serve(octets: &mut [u8], line: Line, held: &[u8], out: &mut [u8]) -> Served
     loop {
         let batch = answer_lines(octets, read, held, from, out);
         let at = batch.at;
-        if !stdio::write_out(&out[..at], b"desk") {
+        if !stdio::write_out(output, errors, &out[..at], b"desk") {
             return Served::Closed;
         }
         let more = batch.line;
@@ -116,31 +126,43 @@ fn serve(octets: &mut [u8], line: Line, held: &[u8], out: &mut [u8]) -> Served
 }
 
 // What the last line prints, which need not have an end.
-fn finish(octets: &[u8], line: Line, out: &mut [u8])
+fn finish(
+    output: &mut impl Write,
+    errors: &mut impl Write,
+    octets: &[u8],
+    line: Line,
+    out: &mut [u8],
+)
     requires { Keeps octets.now line × (length out.old ≡ 131081) }
 {
     let at = answer(out, 0, line, octets);
-    stdio::write_out(&out[..at], b"desk");
+    stdio::write_out(output, errors, &out[..at], b"desk");
 }
 
-// Reads and answers until the input ends. A proved loop has to end, and nothing says that input does: so the loop counts
-// its turns down, from a number that no run uses up.
-fn run(octets: &mut [u8], block: &mut [u8], out: &mut [u8])
+// Reads and answers until the input ends. A proved loop has to end, and nothing says that input does: so the loop has a
+// number of turns that no run uses up.
+fn run(
+    input: &mut impl Read,
+    output: &mut impl Write,
+    errors: &mut impl Write,
+    octets: &mut [u8],
+    block: &mut [u8],
+    out: &mut [u8],
+)
     requires { (length octets.old ≡ 4097) × (length block.old ≡ 65536) × (length out.old ≡ 131081) }
 {
     let mut line = typed::start();
-    let mut turns = u64::MAX;
-    while turns > 0 {
-        turns -= 1;
-        match stdio::read_on(block, 0, b"desk") {
+    for _ in 0..u64::MAX {
+        match stdio::read_on(input, errors, block, 0, b"desk") {
             Got::Octets(n) => {
-                let Served::Goes(more) = serve(octets, line, &block[..n], out) else {
+                let served = serve(output, errors, octets, line, &block[..n], out);
+                let Served::Goes(more) = served else {
                     return;
                 };
                 line = more;
             }
             Got::End => {
-                finish(octets, line, out);
+                finish(output, errors, octets, line, out);
                 return;
             }
             Got::Failed => return,
@@ -148,9 +170,16 @@ fn run(octets: &mut [u8], block: &mut [u8], out: &mut [u8])
     }
 }
 
-fn main() {
+fn main(rt: HostRuntime) {
     let mut octets = [0u8; typed::KEPT_MOST];
     let mut block = [0u8; INPUT];
     let mut out = [0u8; DUE + telling::LINES];
-    run(&mut octets, &mut block, &mut out);
+    run(
+        &mut rt.stdin(),
+        &mut rt.stdout(),
+        &mut rt.stderr(),
+        &mut octets,
+        &mut block,
+        &mut out,
+    );
 }

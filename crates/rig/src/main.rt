@@ -1,5 +1,7 @@
 // The program `rig` (RULES 17): a script of instructions from standard input, each a call of the endpoint or something to
 // show, one line an instruction to standard output. Input is read in large blocks, and lines are written out in blocks.
+#![tactic(auto)]
+
 ghost use Rattle.std.specs.Prelude.{◌≤◌, ◌≡◌, length};
 ghost use Rattle.meaning.specs.Octets.{splice};
 ghost use Rattle.meaning.specs.Memory.{fresh};
@@ -10,6 +12,7 @@ ghost use Rattle.script.specs.Takes.{Lends, Ready};
 ghost use Rattle.rig.specs.Script.{instructions, port, Serves};
 
 use script::{Lent, Took};
+use std::io::{Read, Write};
 use stdio::{Input, Next};
 
 // Octets of an instruction's head: its code, its length.
@@ -96,7 +99,15 @@ fn take_instructions(
 
 // Takes every whole instruction that is held, up to a faulty one. All lines are written out at the end, so that a peer
 // which waits for them has them before the next read.
-fn serve(memory: &mut [u8], room: &mut [u8], lent: Lent, held: &[u8], out: &mut [u8]) -> Served
+fn serve(
+    output: &mut impl Write,
+    errors: &mut impl Write,
+    memory: &mut [u8],
+    room: &mut [u8],
+    lent: Lent,
+    held: &[u8],
+    out: &mut [u8],
+) -> Served
     requires { Ready memory.old room.old lent out.old 65535 }
     ensures { Serves held.now (port memory.old room.old lent 0) result memory.new room.new }
 {
@@ -104,7 +115,7 @@ fn serve(memory: &mut [u8], room: &mut [u8], lent: Lent, held: &[u8], out: &mut 
     let mut from = 0;
     loop {
         let batch = take_instructions(memory, room, lends, held, from, out);
-        if !stdio::write_out(&out[..batch.at], b"rig") {
+        if !stdio::write_out(output, errors, &out[..batch.at], b"rig") {
             return Served::Closed;
         }
         if batch.faulty {
@@ -119,8 +130,16 @@ fn serve(memory: &mut [u8], room: &mut [u8], lent: Lent, held: &[u8], out: &mut 
 }
 
 // Reads and serves until the input ends or an instruction is faulty. A proved loop has to end, and nothing says that input
-// does: so the loop counts its turns down, from a number that no run uses up.
-fn run(memory: &mut [u8], block: &mut [u8], room: &mut [u8], out: &mut [u8])
+// does: so the loop has a number of turns that no run uses up.
+fn run(
+    input: &mut impl Read,
+    output: &mut impl Write,
+    errors: &mut impl Write,
+    memory: &mut [u8],
+    block: &mut [u8],
+    room: &mut [u8],
+    out: &mut [u8],
+)
     requires { (length memory.old ≡ 2200) × (length block.old ≡ 131072) × (length room.old ≡ 8192) × (length out.old ≡ 81932) }
 {
     let mut lent = Lent {
@@ -129,13 +148,13 @@ fn run(memory: &mut [u8], block: &mut [u8], room: &mut [u8], out: &mut [u8])
     };
     let mut from = 0;
     let mut to = 0;
-    let mut turns = u64::MAX;
-    while turns > 0 {
-        turns -= 1;
-        let Input::Held(end) = stdio::read_more(block, from, to, b"rig") else {
+    for _ in 0..u64::MAX {
+        let more = stdio::read_more(input, output, errors, block, from, to, b"rig");
+        let Input::Held(end) = more else {
             return;
         };
-        let Served::Rest(rest, lends) = serve(memory, room, lent, &block[..end], out) else {
+        let served = serve(output, errors, memory, room, lent, &block[..end], out);
+        let Served::Rest(rest, lends) = served else {
             return;
         };
         lent = lends;
@@ -152,11 +171,19 @@ fn start(memory: &mut [u8])
     endpoint::make_fresh(&mut memory[..endpoint::MEMORY_LENGTH], endpoint::RELEASE_18);
 }
 
-fn main() {
+fn main(rt: HostRuntime) {
     let mut memory = [0u8; script::MOST_LENT];
     start(&mut memory);
     let mut block = [0u8; INPUT];
     let mut room = [0u8; script::MOST_ROOM];
     let mut out = [0u8; DUE + LINE];
-    run(&mut memory, &mut block, &mut room, &mut out);
+    run(
+        &mut rt.stdin(),
+        &mut rt.stdout(),
+        &mut rt.stderr(),
+        &mut memory,
+        &mut block,
+        &mut room,
+        &mut out,
+    );
 }
