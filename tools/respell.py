@@ -6,8 +6,8 @@ usage: respell.py table FOLDER     prints the table, old TAB new, from what FOLD
        respell.py turn FOLDER      turns the files of FOLDER by names.tsv beside this script: specs/, proofs/, and of src/ the clauses,
                                    ghost uses and comments; of README.md and docs/ the code spans
 
-Whole words alone are turned. Functions of src/, fields, strings and file names stay. A second run changes nothing. It was run once, behind the
-kit's own script.
+Whole words alone are turned. Functions of src/, strings and file names stay. It is run once, behind the kit's own script: the words of APART would
+be turned again.
 """
 import glob
 import os
@@ -61,7 +61,7 @@ def imported(root):
     found = set()
     for path in texts(root):
         for module, items in re.findall(r"^use ([\w.]+)\.\{([^{}]*)\}", open(path, encoding="utf-8").read(), re.M):
-            if not module.startswith("Rattle.") or module.startswith("Rattle.std"):
+            if not module.startswith("Rattle.") or module.startswith("Rattle.std."):
                 found |= {i.split(" as ")[0].strip() for i in items.split(",")}
     return found
 

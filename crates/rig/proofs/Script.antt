@@ -14,8 +14,8 @@ use Rattle.meaning.specs.FormB.{form_length, ahead, make_fresh}
 use Rattle.meaning.proofs.Contents.{fresh_spelt}
 use Rattle.meaning.proofs.Formed.{make_fresh_forms}
 use Rattle.octets.specs.Writing.{Wrote}
-use Rattle.stdio.specs.Pieces.{needed, cutLine}
-use Rattle.stdio.specs.Taking.{Piece, Between, piece_at, whole_at, goesOn, line_at, next, taken, lines, Faulty}
+use Rattle.stdio.specs.Pieces.{needed, cut_line}
+use Rattle.stdio.specs.Taking.{Piece, Between, piece_at, whole_at, goes_on, line_at, next, taken, lines, Faulty}
 use Rattle.stdio.proofs.Taking.{Joins, turn, cut_off, cut_out}
 use Rattle.answers.specs.Answers.{Port}
 use Rattle.script.specs.Takes.{Lends, Takes}
@@ -35,12 +35,12 @@ module _ (held out : List ℕ) (p : Between Port) (memory room : List ℕ) (lent
   of_piece = subst (λ (x : Piece). Takes x.first x.body memory room lent out at r memory' room' out') (cut_out 3 held from e) t
 
   pub instruction_turn : {to : ℕ} {lends : Lent} → r ≡ took.Line to lends → (to ≤ at + 16396) × Lends lends × Joins instructions held p (port memory' room' lends end) to out'
-  unfolding goesOn line_at next effect_of
+  unfolding goes_on line_at next effect_of
   instruction_turn {to} {lends} f =
       let b : Takes (piece_at 3 held from).first (piece_at 3 held from).body memory room lent out at (took.Line to lends) memory' room' out' = rw f at of_piece in
       (b.1.short, b.1.lends, turn instructions (omega arith) held out p (port memory room lent from) at j k (rw (w, b.0)) (rw (front_is memory _ b.1.memory_is, front_is room _ b.1.room_is, e)) b.1.wrote)
 
-  pub instruction_faulty : {to : ℕ} {out'' : List ℕ} → r ≡ took.Faulty → Wrote out' at cutLine to out''
+  pub instruction_faulty : {to : ℕ} {out'' : List ℕ} → r ≡ took.Faulty → Wrote out' at cut_line to out''
       → Faulty instructions held from × (taken instructions held (port memory' room' lent from) ≡ taken instructions held p) × (take to out'' ++ [] ≡ lines instructions held p)
   instruction_faulty f c =
       let b : Takes (piece_at 3 held from).first (piece_at 3 held from).body memory room lent out at took.Faulty memory' room' out' = rw f at of_piece in

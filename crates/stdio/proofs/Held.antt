@@ -56,10 +56,10 @@ module _ (s : List ℕ) (from head : ℕ) {n : ℕ} (e : n ≡ needed s from hea
 -- ---- octets moved to the front
 
 -- A turn moves one octet: those at its place and after it are still the old ones.
-pub move-turn : (s₀ s : List ℕ) (from i : ℕ) → i < length s → from + i < length s₀ → take i s ≡ part s₀ from i → drop i s ≡ drop i s₀
+pub move_turn : (s₀ s : List ℕ) (from i : ℕ) → i < length s → from + i < length s₀ → take i s ≡ part s₀ from i → drop i s ≡ drop i s₀
     → (take (i + 1) (set s i (get_or s (from + i) 0)) ≡ part s₀ from (i + 1)) × (drop (i + 1) (set s i (get_or s (from + i) 0)) ≡ drop (i + 1) s₀)
 unfolding part
-move-turn s₀ s from i h k e f =
+move_turn s₀ s from i h k e f =
     let x = get_or s (from + i) 0 in
     let c : from + i ≡ i + from = omega arith in
     let g : x ≡ get_or (drop from s₀) i 0 =
@@ -82,9 +82,9 @@ moved s₀ s from n h e f =
     sym (take-append-drop n s) ∙ ap₂ ◌++◌ e (f ∙ ap (λ (k : ℕ). drop k s₀) l)
 
 -- and octets read behind them
-pub in-front : (s₀ : List ℕ) (from to : ℕ) {n : ℕ} {s₁ : List ℕ} (s₂ : List ℕ) → from ≤ to → to ≤ length s₀ → (n ≡ to - from) × (s₁ ≡ splice s₀ 0 (part s₀ from n)) → take n s₂ ≡ take n s₁
+pub in_front : (s₀ : List ℕ) (from to : ℕ) {n : ℕ} {s₁ : List ℕ} (s₂ : List ℕ) → from ≤ to → to ≤ length s₀ → (n ≡ to - from) × (s₁ ≡ splice s₀ 0 (part s₀ from n)) → take n s₂ ≡ take n s₁
     → take (to - from) s₂ ≡ part s₀ from (to - from)
-in-front s₀ from to {n} s₂ h k e f =
+in_front s₀ from to {n} s₂ h k e f =
     let l = length_part s₀ from n (omega (arith, e.0)) in
     let g : take n s₂ ≡ part s₀ from n = f ∙ ap (take n) e.1 ∙ (rw l at (splice_front s₀ (part s₀ from n))) in
     rw e.0 at g

@@ -10,8 +10,8 @@ use lib.Seq.{take_at, length-take-le}
 use borrow.Author.Tests.{lt-leb, leb-true, leb-false}
 use Rattle.meaning.specs.Octets.{octet, part, splice}
 use Rattle.octets.specs.Writing.{Wrote}
-use Rattle.stdio.specs.Pieces.{needed, next_at, cutLine}
-use Rattle.stdio.specs.Taking.{Program, Between, piece_at, whole_at, goesOn, line_at, next, takenIn, linesIn, taken, lines, Faulty, Wanting}
+use Rattle.stdio.specs.Pieces.{needed, next_at, cut_line}
+use Rattle.stdio.specs.Taking.{Program, Between, piece_at, whole_at, goes_on, line_at, next, taken_in, lines_in, taken, lines, Faulty, Wanting}
 use Rattle.stdio.specs.declared.Next.{Next}
 use Rattle.stdio.specs.declared.Next.TheVariants.{Whole, More}
 use Rattle.stdio.proofs.Held.{needed-least, needed-most}
@@ -23,64 +23,64 @@ unfolding whole_at
 past head held from h k = lt-leb (from + needed held from head) (length held) (omega (arith, needed-least held from head))
 
 module _ {S : Type 0} (t : Program S) (h : 1 ≤ t.head) (held : List ℕ) where
-  stuck : (from : ℕ) → length held ≤ from → goesOn t held from ≡ false
-  unfolding goesOn
+  stuck : (from : ℕ) → length held ≤ from → goes_on t held from ≡ false
+  unfolding goes_on
   stuck from k = rw (past t.head held from h k)
 
   -- more turns than there are octets change nothing
-  taken_bound : (n : ℕ) (p : Between S) → length held ≤ p.from + n → takenIn t n held p ≡ takenIn t (suc n) held p
-  unfolding takenIn next
+  taken_bound : (n : ℕ) (p : Between S) → length held ≤ p.from + n → taken_in t n held p ≡ taken_in t (suc n) held p
+  unfolding taken_in next
   taken_bound zero p k = rw (stuck p.from (omega arith))
   taken_bound (suc n) p k =
-      ap (λ (x : Between S). cond (goesOn t held p.from) x p) (taken_bound n (next t held p) (omega (arith, needed-least held p.from t.head)))
+      ap (λ (x : Between S). cond (goes_on t held p.from) x p) (taken_bound n (next t held p) (omega (arith, needed-least held p.from t.head)))
 
-  lines_bound : (n : ℕ) (p : Between S) → length held ≤ p.from + n → linesIn t n held p ≡ linesIn t (suc n) held p
-  unfolding linesIn next
+  lines_bound : (n : ℕ) (p : Between S) → length held ≤ p.from + n → lines_in t n held p ≡ lines_in t (suc n) held p
+  unfolding lines_in next
   lines_bound zero p k = rw (stuck p.from (omega arith), past t.head held p.from h (omega arith))
   lines_bound (suc n) p k =
-      ap (λ (x : List ℕ). cond (goesOn t held p.from) (line_at t held p ++ x) (cond (whole_at t.head held p.from) cutLine []))
+      ap (λ (x : List ℕ). cond (goes_on t held p.from) (line_at t held p ++ x) (cond (whole_at t.head held p.from) cut_line []))
       (lines_bound n (next t held p) (omega (arith, needed-least held p.from t.head)))
 
-  taken-turn : (n : ℕ) (p : Between S) → length held ≤ p.from + n → goesOn t held p.from ≡ true → takenIn t n held (next t held p) ≡ takenIn t n held p
-  unfolding takenIn next
+  taken-turn : (n : ℕ) (p : Between S) → length held ≤ p.from + n → goes_on t held p.from ≡ true → taken_in t n held (next t held p) ≡ taken_in t n held p
+  unfolding taken_in next
   taken-turn zero p k w = absurd (false≢true (sym (stuck p.from (omega arith)) ∙ w))
   taken-turn (suc n) p k w = rw w (sym (taken_bound n (next t held p) (omega (arith, needed-least held p.from t.head))))
 
-  lines-turn : (n : ℕ) (p : Between S) → length held ≤ p.from + n → goesOn t held p.from ≡ true
-      → line_at t held p ++ linesIn t n held (next t held p) ≡ linesIn t n held p
-  unfolding linesIn next
+  lines-turn : (n : ℕ) (p : Between S) → length held ≤ p.from + n → goes_on t held p.from ≡ true
+      → line_at t held p ++ lines_in t n held (next t held p) ≡ lines_in t n held p
+  unfolding lines_in next
   lines-turn zero p k w = absurd (false≢true (sym (stuck p.from (omega arith)) ∙ w))
   lines-turn (suc n) p k w =
       rw w (ap (λ (x : List ℕ). line_at t held p ++ x) (sym (lines_bound n (next t held p) (omega (arith, needed-least held p.from t.head)))))
 
   -- where no piece is taken
-  taken_stop : (n : ℕ) (p : Between S) → goesOn t held p.from ≡ false → takenIn t n held p ≡ p
-  unfolding takenIn
+  taken_stop : (n : ℕ) (p : Between S) → goes_on t held p.from ≡ false → taken_in t n held p ≡ p
+  unfolding taken_in
   taken_stop zero p w = refl
   taken_stop (suc n) p w = rw w
 
-  pub taken_none : (p : Between S) → goesOn t held p.from ≡ false → taken t held p ≡ p
+  pub taken_none : (p : Between S) → goes_on t held p.from ≡ false → taken t held p ≡ p
   unfolding taken
   taken_none p w = taken_stop (length held) p w
 
-  pub wanting-none : (p : Between S) → Wanting t held p.from → taken t held p ≡ p
-  unfolding goesOn
-  wanting-none p w = taken_none p (rw w.0)
+  pub wanting_none : (p : Between S) → Wanting t held p.from → taken t held p ≡ p
+  unfolding goes_on
+  wanting_none p w = taken_none p (rw w.0)
 
-  faulty_stops : (from : ℕ) → Faulty t held from → goesOn t held from ≡ false
-  unfolding goesOn
+  faulty_stops : (from : ℕ) → Faulty t held from → goes_on t held from ≡ false
+  unfolding goes_on
   faulty_stops from w = rw (w.0, w.1)
 
   -- a faulty piece is where the pieces end
-  pub faulty-last : (p q : Between S) → taken t held q ≡ taken t held p → Faulty t held q.from → Faulty t held (taken t held p).from
-  faulty-last p q s w = subst (λ (x : Between S). Faulty t held x.from) (sym (taken_none q (faulty_stops q.from w)) ∙ s) w
+  pub faulty_last : (p q : Between S) → taken t held q ≡ taken t held p → Faulty t held q.from → Faulty t held (taken t held p).from
+  faulty_last p q s w = subst (λ (x : Between S). Faulty t held x.from) (sym (taken_none q (faulty_stops q.from w)) ∙ s) w
 
-  cut_in : (n : ℕ) (p : Between S) → length held ≤ p.from + n → Faulty t held p.from → linesIn t n held p ≡ cutLine
-  unfolding linesIn
+  cut_in : (n : ℕ) (p : Between S) → length held ≤ p.from + n → Faulty t held p.from → lines_in t n held p ≡ cut_line
+  unfolding lines_in
   cut_in zero p k w = absurd (false≢true (sym (past t.head held p.from h (omega arith)) ∙ w.0))
   cut_in (suc n) p k w = rw (faulty_stops p.from w, w.0)
 
-  faulty_cut : (p : Between S) → Faulty t held p.from → lines t held p ≡ cutLine
+  faulty_cut : (p : Between S) → Faulty t held p.from → lines t held p ≡ cut_line
   unfolding lines
   faulty_cut p w = cut_in (length held) p (omega arith) w
 
@@ -95,10 +95,10 @@ abbrev is_whole : Next → Bool
 is_whole (Whole end) = true
 is_whole More = false
 
-pub found-whole : (head : ℕ) (held : List ℕ) (from : ℕ) {end : ℕ} {r : Next} → r ≡ Whole end → r ≡ next_at held from head
+pub found_whole : (head : ℕ) (held : List ℕ) (from : ℕ) {end : ℕ} {r : Next} → r ≡ Whole end → r ≡ next_at held from head
     → (end ≡ from + needed held from head) × (whole_at head held from ≡ true) × (from + head ≤ end) × (end ≤ length held)
 unfolding whole_at next_at
-found-whole head held from {end} e f = go (leb n (length held)) refl (sym e ∙ f)
+found_whole head held from {end} e f = go (leb n (length held)) refl (sym e ∙ f)
   where
     n : ℕ
     n = from + needed held from head
@@ -109,9 +109,9 @@ found-whole head held from {end} e f = go (leb n (length held)) refl (sym e ∙ 
         (k, l, omega (arith, k, needed-least held from head), omega (arith, k, leb-true n (length held) l))
     go false l g = absurd (true≢false (ap is_whole g))
 
-pub found-more : {S : Type 0} (t : Program S) (held : List ℕ) (from : ℕ) {r : Next} → ((i : ℕ) → get_or held i 0 < 256) → r ≡ More → r ≡ next_at held from t.head → Wanting t held from
+pub found_more : {S : Type 0} (t : Program S) (held : List ℕ) (from : ℕ) {r : Next} → ((i : ℕ) → get_or held i 0 < 256) → r ≡ More → r ≡ next_at held from t.head → Wanting t held from
 unfolding whole_at next_at
-found-more t held from octets e f = go (leb n (length held)) refl (sym e ∙ f)
+found_more t held from octets e f = go (leb n (length held)) refl (sym e ∙ f)
   where
     n : ℕ
     n = from + needed held from t.head
@@ -143,7 +143,7 @@ line-joined out line at h w =
 
 module _ {S : Type 0} (t : Program S) (h : 1 ≤ t.head) (held out : List ℕ) (p q : Between S) (at : ℕ) {to : ℕ} {out' : List ℕ} (j : Joins t held p q at out) (k : at ≤ length out) where
   -- a piece taken
-  pub turn : {q' : Between S} → goesOn t held q.from ≡ true → q' ≡ next t held q → Wrote out at (line_at t held q) to out' → Joins t held p q' to out'
+  pub turn : {q' : Between S} → goes_on t held q.from ≡ true → q' ≡ next t held q → Wrote out at (line_at t held q) to out' → Joins t held p q' to out'
   unfolding taken lines
   turn w e l = (
     ap (taken t held) e ∙ taken-turn t h held (length held) q (omega arith) w ∙ j.0,
@@ -154,5 +154,5 @@ module _ {S : Type 0} (t : Program S) (h : 1 ≤ t.head) (held out : List ℕ) (
   )
 
   -- a faulty piece
-  pub cut_off : Faulty t held q.from → Wrote out at cutLine to out' → take to out' ++ [] ≡ lines t held p
-  cut_off w l = append-nil (take to out') ∙ line-joined out cutLine at k l ∙ ap (λ (x : List ℕ). take at out ++ x) (sym (faulty_cut t h held q w)) ∙ j.1
+  pub cut_off : Faulty t held q.from → Wrote out at cut_line to out' → take to out' ++ [] ≡ lines t held p
+  cut_off w l = append-nil (take to out') ∙ line-joined out cut_line at k l ∙ ap (λ (x : List ℕ). take at out ++ x) (sym (faulty_cut t h held q w)) ∙ j.1

@@ -17,8 +17,8 @@ unfoldable pub next_at : List ℕ → ℕ → ℕ → Next
 next_at s from head = cond (leb (from + needed s from head) (length s)) (Whole (from + needed s from head)) More
 
 -- `cut`
-unfoldable pub cutLine : List ℕ
-cutLine = 99 ∷ 117 ∷ 116 ∷ 10 ∷ []
+unfoldable pub cut_line : List ℕ
+cut_line = 99 ∷ 117 ∷ 116 ∷ 10 ∷ []
 
 -- what was read lies behind a place and within n octets
 abbrev pub Brought : ℕ → ℕ → Got → Type 0

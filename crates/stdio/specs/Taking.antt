@@ -1,7 +1,7 @@
 -- Pieces taken one after another from the octets that are held: what a program has afterwards, and the lines that it prints.
 use Rattle.std.specs.Prelude.{ℕ, zero, suc, ◌+◌, ◌-◌, ◌≤◌, ◌<◌, ◌≡◌, Bool, true, false, cond, ◌&&◌, List, [], ◌++◌, length, take, leb}
 use Rattle.meaning.specs.Octets.{octet, part}
-use Rattle.stdio.specs.Pieces.{needed, cutLine}
+use Rattle.stdio.specs.Pieces.{needed, cut_line}
 
 -- a piece: its first octet, which is its code where it has one, and the body behind its head
 pub record Piece : Type 0 where
@@ -29,8 +29,8 @@ unfoldable pub whole_at : ℕ → List ℕ → ℕ → Bool
 whole_at head held from = leb (from + needed held from head) (length held)
 
 -- whether the piece at a place is there and can be taken
-unfoldable pub goesOn : {S : Type 0} → Program S → List ℕ → ℕ → Bool
-goesOn t held from = whole_at t.head held from && t.right (piece_at t.head held from)
+unfoldable pub goes_on : {S : Type 0} → Program S → List ℕ → ℕ → Bool
+goes_on t held from = whole_at t.head held from && t.right (piece_at t.head held from)
 
 unfoldable pub line_at : {S : Type 0} → Program S → List ℕ → Between S → List ℕ
 line_at t held p = t.line p.state (piece_at t.head held p.from)
@@ -39,20 +39,20 @@ unfoldable pub next : {S : Type 0} → Program S → List ℕ → Between S → 
 next t held p = record { state = t.after p.state (piece_at t.head held p.from); from = p.from + needed held p.from t.head }
 
 -- at most n pieces taken, and their lines; a whole piece that cannot be taken is the last, and prints `cut`
-unfoldable pub takenIn : {S : Type 0} → Program S → ℕ → List ℕ → Between S → Between S
-takenIn t zero held p = p
-takenIn t (suc n) held p = cond (goesOn t held p.from) (takenIn t n held (next t held p)) p
+unfoldable pub taken_in : {S : Type 0} → Program S → ℕ → List ℕ → Between S → Between S
+taken_in t zero held p = p
+taken_in t (suc n) held p = cond (goes_on t held p.from) (taken_in t n held (next t held p)) p
 
-unfoldable pub linesIn : {S : Type 0} → Program S → ℕ → List ℕ → Between S → List ℕ
-linesIn t zero held p = []
-linesIn t (suc n) held p = cond (goesOn t held p.from) (line_at t held p ++ linesIn t n held (next t held p)) (cond (whole_at t.head held p.from) cutLine [])
+unfoldable pub lines_in : {S : Type 0} → Program S → ℕ → List ℕ → Between S → List ℕ
+lines_in t zero held p = []
+lines_in t (suc n) held p = cond (goes_on t held p.from) (line_at t held p ++ lines_in t n held (next t held p)) (cond (whole_at t.head held p.from) cut_line [])
 
 -- all that can be taken: there are no more pieces than octets
 unfoldable pub taken : {S : Type 0} → Program S → List ℕ → Between S → Between S
-taken t held p = takenIn t (length held) held p
+taken t held p = taken_in t (length held) held p
 
 unfoldable pub lines : {S : Type 0} → Program S → List ℕ → Between S → List ℕ
-lines t held p = linesIn t (length held) held p
+lines t held p = lines_in t (length held) held p
 
 -- a piece that is there and cannot be taken; no whole piece, and less left than the longest one has
 abbrev pub Faulty : {S : Type 0} → Program S → List ℕ → ℕ → Type 0

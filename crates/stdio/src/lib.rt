@@ -6,7 +6,7 @@
 ghost use Rattle.std.specs.Prelude.{◌+◌, ◌-◌, ◌≤◌, ◌<◌, ◌≡◌, length};
 ghost use Rattle.meaning.specs.Octets.{part, splice};
 ghost use Rattle.octets.specs.Writing.{Wrote};
-ghost use Rattle.stdio.specs.Pieces.{next_at, Reads, Continues, cutLine};
+ghost use Rattle.stdio.specs.Pieces.{next_at, Reads, Continues, cut_line};
 
 use std::io::{Read, Write};
 
@@ -53,7 +53,7 @@ pub fn to_front(block: &mut [u8], from: usize, to: usize) -> usize
 pub fn write_cut(out: &mut [u8], at: usize) -> usize
     requires { at + 4 ≤ length out.old }
     ensures value { result ≡ at + 4 }
-    ensures wrote { Wrote out.old at cutLine result out.new }
+    ensures wrote { Wrote out.old at cut_line result out.new }
 {
     octets::append(out, at, b"cut\n")
 }

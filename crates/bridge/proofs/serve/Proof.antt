@@ -6,7 +6,7 @@ use lib.ListN.{length}
 use lib.Seq.{length-take-le}
 use borrow.Author.Rules.{rules}
 use Rattle.stdio.specs.Taking.{taken}
-use Rattle.stdio.proofs.Taking.{wanting-none}
+use Rattle.stdio.proofs.Taking.{wanting_none}
 use Rattle.bridge.specs.Frames.{frames, port}
 use Rattle.bridge.proofs.serve.Statement.{statement}
 use Rattle.bridge.proofs.serve.Tie as tie
@@ -64,7 +64,7 @@ returns-2 : tie.Need-returns-2 invariant-loop decreases-loop
 returns-2 c =
     let a = c.before.before.before.before.before.before.before.before.before.before.before.before.answer-frames in
     let w = a.ensures.all refl (omega arith) in
-    (sym (a.ensures.same ∙ c.before.before.before.before.before.before.before.before.before.before.before.before.before.before.before.before.loop.invariant.4) ∙ wanting-none frames (omega arith) c.before.before.before.before.before.before.before.before.before.before.before.before.before.before.before.before.before.before.before.before.before.args.held.now _ w, a.ensures.within, w)
+    (sym (a.ensures.same ∙ c.before.before.before.before.before.before.before.before.before.before.before.before.before.before.before.before.loop.invariant.4) ∙ wanting_none frames (omega arith) c.before.before.before.before.before.before.before.before.before.before.before.before.before.before.before.before.before.before.before.before.before.args.held.now _ w, a.ensures.within, w)
 
 loop-less : tie.Need-loop-smaller invariant-loop decreases-loop
 loop-less c =

@@ -6,7 +6,7 @@ use lib.ListN.{length}
 use lib.Seq.{length-take-le}
 use borrow.Author.Rules.{rules}
 use Rattle.stdio.specs.Taking.{taken}
-use Rattle.stdio.proofs.Taking.{wanting-none, faulty-last}
+use Rattle.stdio.proofs.Taking.{wanting_none, faulty_last}
 use Rattle.script.specs.Takes.{Lends}
 use Rattle.rig.specs.Script.{instructions, port}
 use Rattle.rig.proofs.serve.Statement.{statement}
@@ -64,7 +64,7 @@ same-length-6 c = search rules
 returns-2 : tie.Need-returns-2 invariant-loop decreases-loop
 returns-2 c =
     let b = c.before.before.before.before.before.before.before.before.before.before.before.take-instructions.ensures.1 in
-    faulty-last instructions (omega arith) c.before.before.before.before.before.before.before.before.before.before.before.before.before.before.before.before.before.before.before.before.args.held.now _ _ (b.same ∙ c.before.before.before.before.before.before.before.before.before.before.before.before.before.before.before.loop.invariant.5) (b.stopped c.if2.true)
+    faulty_last instructions (omega arith) c.before.before.before.before.before.before.before.before.before.before.before.before.before.before.before.before.before.before.before.before.args.held.now _ _ (b.same ∙ c.before.before.before.before.before.before.before.before.before.before.before.before.before.before.before.loop.invariant.5) (b.stopped c.if2.true)
 
 same-length-7 : tie.Need-same-length-7 invariant-loop decreases-loop
 same-length-7 c = search rules
@@ -80,7 +80,7 @@ returns-3 c =
     let a = c.before.before.before.before.before.before.before.before.before.before.before.before.before.before.take-instructions in
     let b = a.ensures.1 in
     let w = b.all c.before.before.before.if2.false (omega (arith, c.if3.true)) in
-    (sym (b.same ∙ c.before.before.before.before.before.before.before.before.before.before.before.before.before.before.before.before.before.before.loop.invariant.5) ∙ wanting-none instructions (omega arith) c.before.before.before.before.before.before.before.before.before.before.before.before.before.before.before.before.before.before.before.before.before.before.before.args.held.now _ w, b.within, w, a.ensures.0)
+    (sym (b.same ∙ c.before.before.before.before.before.before.before.before.before.before.before.before.before.before.before.before.before.before.loop.invariant.5) ∙ wanting_none instructions (omega arith) c.before.before.before.before.before.before.before.before.before.before.before.before.before.before.before.before.before.before.before.before.before.before.before.args.held.now _ w, b.within, w, a.ensures.0)
 
 loop-less : tie.Need-loop-smaller invariant-loop decreases-loop
 loop-less c =

@@ -7,7 +7,7 @@ use lib.ListN.{length}
 use borrow.Author.Rules.{rules}
 use Rattle.stdio.specs.Pieces.{needed}
 use Rattle.stdio.specs.Taking.{whole_at}
-use Rattle.stdio.proofs.Taking.{Joins, found-whole, found-more}
+use Rattle.stdio.proofs.Taking.{Joins, found_whole, found_more}
 use Rattle.script.specs.Takes.{Lends}
 use Rattle.rig.specs.Script.{instructions, port}
 use Rattle.rig.proofs.Script.{instruction_turn, instruction_faulty}
@@ -28,7 +28,7 @@ found : (c : tie.After-known-told invariant-loop decreases-loop)
     let from = c.before.before.before.before.before.loop.next in
     let end = c.before.end.given.0.0 in
     (end ≡ from + needed held from 3) × (whole_at 3 held from ≡ true) × (from + 3 ≤ end) × (end ≤ length held)
-found c = found-whole 3 c.before.before.before.before.before.before.before.before.before.before.args.held.now c.before.before.before.before.before.loop.next c.before.end.given.1 c.before.before.before.next-piece.ensures
+found c = found_whole 3 c.before.before.before.before.before.before.before.before.before.before.args.held.now c.before.before.before.before.before.loop.next c.before.end.given.1 c.before.before.before.next-piece.ensures
 
 loop-holds : tie.Need-loop-init invariant-loop decreases-loop
 loop-holds c = (search rules, search rules, search rules, search rules, search rules, search rules, (refl, refl), search rules, search rules)
@@ -59,7 +59,7 @@ returns c =
         same = l.invariant.6.0;
         joined = l.invariant.6.1;
         stopped = λ e. absurd (false≢true e);
-        all = λ e h. found-more instructions c.before.before.before.before.before.before.before.before.before.args.held.now l.next (λ i. omega (arith, c.before.before.before.before.before.before.shared-slice-known.given i)) c.enum_told.given.1 c.before.before.next-piece.ensures;
+        all = λ e h. found_more instructions c.before.before.before.before.before.before.before.before.before.args.held.now l.next (λ i. omega (arith, c.before.before.before.before.before.before.shared-slice-known.given i)) c.enum_told.given.1 c.before.before.next-piece.ensures;
         onward = λ e h. l.invariant.5 (omega (arith, h));
         within = l.invariant.3;
         short = omega (arith, l.invariant.4, l.invariant.2, c.before.before.before.before.before.before.before.before.before.requires.0.3);

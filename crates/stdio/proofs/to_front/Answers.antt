@@ -5,7 +5,7 @@ use mathlib.Core.Path.{◌≡◌, refl}
 use lib.ListN.{length-set}
 use borrow.Author.Rules.{rules}
 use Rattle.meaning.specs.Octets.{part}
-use Rattle.stdio.proofs.Held.{move-turn, moved}
+use Rattle.stdio.proofs.Held.{move_turn, moved}
 use Rattle.stdio.proofs.to_front.Goals as goal
 
 pub loop-i-init : goal.loop-i-init
@@ -15,7 +15,7 @@ loop-i-init c = (search rules, refl, refl, refl)
 pub loop-i-preserved : goal.loop-i-preserved
 loop-i-preserved c =
     let l = c.loop-i in
-    let m = move-turn c.args.block.now l.block c.args.from l.i (omega arith) (omega arith) l.invariant.2 l.invariant.3 in
+    let m = move_turn c.args.block.now l.block c.args.from l.i (omega arith) (omega arith) l.invariant.2 l.invariant.3 in
     (omega arith, simp length-set l.invariant.1, m.0, m.1)
 
 pub returns : goal.returns

@@ -1,7 +1,7 @@
 -- `stdio::write_cut` meets its contract.
-use Rattle.stdio.specs.Pieces.{cutLine}
+use Rattle.stdio.specs.Pieces.{cut_line}
 use Rattle.stdio.proofs.write_cut.Goals as goal
 
 pub returns : goal.returns
-unfolding cutLine
+unfolding cut_line
 returns c = record { value = c.append.ensures.0; wrote = c.append.ensures }
