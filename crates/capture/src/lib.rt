@@ -11,7 +11,7 @@ ghost use Rattle.capture.specs.Handing.{number_of, name_in, held_in, failed_in, 
 use contents::{Counted, Sized, Span, Walked};
 
 // What is left to hand out of a message: of each kind of record the octets that are left.
-#[derive(Drop)]
+#[derive(Clone, Copy)]
 pub struct Cursor {
     pub names: Span,
     pub values: Span,
@@ -22,7 +22,7 @@ pub struct Cursor {
 }
 
 // A record: a name; a name, where its value stands and how long it is; a name and a cause.
-#[derive(Drop)]
+#[derive(Clone, Copy)]
 pub enum Record {
     Name(usize),
     Value(usize, usize, usize),
@@ -33,7 +33,7 @@ pub enum Record {
 }
 
 // What is handed out: a record and what is left behind it, the end, or why the message is refused.
-#[derive(Drop)]
+#[derive(Clone, Copy)]
 pub enum Handed {
     Record(Record, Cursor),
     End,
@@ -60,7 +60,7 @@ pub fn number(handed: Handed) -> usize
 // ---- what is left to hand out at first
 
 // What is left to hand out, or that something is cut short or left over.
-#[derive(Drop)]
+#[derive(Clone, Copy)]
 enum Opened {
     Left(Cursor),
     CutShort,
@@ -189,7 +189,7 @@ fn open_notification(s: &[u8]) -> Opened
 // ---- records, handed out
 
 // A name at the front of a span.
-#[derive(Drop)]
+#[derive(Clone, Copy)]
 enum Named {
     Name(usize),
     CutShort,
@@ -210,7 +210,7 @@ fn name_in(s: &[u8], p: Span) -> Named
 }
 
 // A name at the front of a span, and where its value stands, with a length of w octets before it.
-#[derive(Drop)]
+#[derive(Clone, Copy)]
 enum Held {
     Value(usize, Span),
     CutShort,
@@ -230,7 +230,7 @@ fn held_in(s: &[u8], p: Span, w: usize) -> Held
 }
 
 // A name at the front of a span, and the cause behind it, as the message has it.
-#[derive(Drop)]
+#[derive(Clone, Copy)]
 enum Failed {
     Cause(usize, u8),
     CutShort,

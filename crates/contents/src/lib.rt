@@ -18,7 +18,7 @@ pub struct Span {
 // ---- octets behind a length
 
 // Octets that are all there, and where they stand; or not.
-#[derive(Drop)]
+#[derive(Clone, Copy)]
 pub enum Sized {
     Octets(Span),
     CutShort,
@@ -100,7 +100,7 @@ fn keep(k: Contents, id: u8, p: Span) -> Contents
 }
 
 // The elements of a reply that are read, or that one is cut short.
-#[derive(Drop)]
+#[derive(Clone, Copy)]
 pub enum Walked {
     Elements(Contents),
     CutShort,
@@ -133,7 +133,7 @@ pub fn walk(s: &[u8]) -> Walked
 // ---- records, walked
 
 // The place after some records that are all there; or they are not.
-#[derive(Drop)]
+#[derive(Clone, Copy)]
 enum Passed {
     At(usize),
     CutShort,
@@ -175,7 +175,7 @@ pub fn whole(s: &[u8], at: usize, to: usize) -> bool
 }
 
 // Values and errors, each behind its count, and where each of them stand; or they are not all there.
-#[derive(Drop)]
+#[derive(Clone, Copy)]
 pub enum Counted {
     Spans(Span, Span),
     CutShort,

@@ -14,22 +14,22 @@ const TOO_LONG: u64 = 1 << 47;
 const LARGEST: u64 = (1 << 63) - 1;
 
 // Whole nanoseconds.
-#[derive(Drop)]
+#[derive(Clone, Copy)]
 pub struct Nanoseconds(pub u64);
 
 // Delay units (RULES 7.1).
-#[derive(Drop)]
+#[derive(Clone, Copy)]
 pub struct DelayUnits(pub u64);
 
 // Delay units as whole nanoseconds and the units over, too few for one more.
-#[derive(Drop)]
+#[derive(Clone, Copy)]
 pub struct Split {
     pub nanoseconds: Nanoseconds,
     pub over: DelayUnits,
 }
 
 // What octets hold as a stored delay: eight spell one, any other count none.
-#[derive(Drop)]
+#[derive(Clone, Copy)]
 pub enum Stored {
     Delay(DelayUnits),
     NotEight,

@@ -71,7 +71,7 @@ pub const RUNNING_AT: usize = table::BEHIND_AT + table::RUNNING_AT;
 
 // What a call answers: done, with the length of what it wrote; thirteen reasons why nothing was done, a malformed operation
 // with its position in the message; that a waiting notification is to be sent again, or has been given up.
-#[derive(Drop)]
+#[derive(Clone, Copy)]
 pub enum Outcome {
     Done(usize),
     MemoryUnsound,

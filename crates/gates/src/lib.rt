@@ -8,7 +8,7 @@ ghost use Rattle.meaning.specs.FormB as form_b;
 ghost use Rattle.gates.specs.Answers.{refusal_number, answer_of, running};
 
 // Why there is no answer: the memory is not that of a port, or no block runs.
-#[derive(Drop)]
+#[derive(Clone, Copy)]
 pub enum Refusal {
     MemoryUnsound,
     NothingRuns,
@@ -16,7 +16,7 @@ pub enum Refusal {
 
 // The answer: refused; the instant is before the base time; or the gate states, the entry's number from 0, and the
 // nanoseconds to the next change.
-#[derive(Drop)]
+#[derive(Clone, Copy)]
 pub enum Gates {
     Refused(Refusal),
     NotStarted,

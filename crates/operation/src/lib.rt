@@ -22,7 +22,7 @@ pub enum Op {
 
 // What a list hands out at a place: an operation and the place after it; the position in the message of one that is
 // malformed or cut short; the end.
-#[derive(Drop)]
+#[derive(Clone, Copy)]
 pub enum Handed {
     Operation(Op, usize),
     Malformed(usize),
@@ -104,7 +104,7 @@ pub fn operation_at(list: &[u8], at: usize, profile: u8) -> Handed
 }
 
 // A reader: the list that is read, and the place at which it goes on.
-#[derive(Drop)]
+#[derive(Clone, Copy)]
 pub struct Reader<'a> {
     pub list: &'a [u8],
     pub at: usize,
@@ -140,7 +140,7 @@ pub fn hand_out(list: &[u8], at: usize, profile: u8) -> Handed
 
 // Whether each octet of a list belongs to a whole operation; else the position in the message of the first one that is
 // malformed or cut short.
-#[derive(Drop)]
+#[derive(Clone, Copy)]
 pub enum Wholeness {
     Whole,
     Broken(usize),

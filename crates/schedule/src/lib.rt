@@ -7,7 +7,7 @@ ghost use Rattle.meaning.specs.Block.{sums_from, sums_of, sums, joined_block, li
 ghost use Rattle.schedule.specs.Rules.{rule_of, asked, fit_together};
 
 // The rules of the table's rows.
-#[derive(Drop)]
+#[derive(Clone, Copy)]
 pub enum Rule {
     Free,
     Within(u64, u64),

@@ -32,14 +32,14 @@ const IN_FULL: u8 = 9;
 const FORWARD: u8 = 11;
 
 // How many octets are lent as memory, and how many the room that was made last has.
-#[derive(Drop)]
+#[derive(Clone, Copy)]
 pub struct Lent {
     pub memory: usize,
     pub room: usize,
 }
 
 // What became of an instruction: the place after its line, and what is lent from then on; or it is faulty.
-#[derive(Drop)]
+#[derive(Clone, Copy)]
 pub enum Took {
     Line(usize, Lent),
     Faulty,

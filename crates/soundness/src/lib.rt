@@ -104,7 +104,7 @@ fn all_fields(m: &[u8]) -> bool
 }
 
 // Octets that were looked at, and where those start that are looked at next.
-#[derive(Drop)]
+#[derive(Clone, Copy)]
 pub struct Gap {
     pub blank: bool,
     pub end: usize,

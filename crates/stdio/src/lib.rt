@@ -13,7 +13,7 @@ use std::io::{Read, Write};
 // ---- what is held
 
 // What lies at a place of the input: a whole piece, which ends at the place told, or one of which more is to be read.
-#[derive(Drop)]
+#[derive(Clone, Copy)]
 pub enum Next {
     Whole(usize),
     More,
@@ -81,7 +81,7 @@ pub fn write_out(
 }
 
 // What a read brought: octets, the input's end, or nothing since it failed, which has been said.
-#[derive(Drop)]
+#[derive(Clone, Copy)]
 pub enum Got {
     Octets(usize),
     End,
@@ -118,7 +118,7 @@ fn write_out_cut(output: &mut impl Write, errors: &mut impl Write, name: &[u8]) 
 
 // Where the input goes on: octets are held from the front up to a place. Else it is over: it has ended, and `cut` has been
 // written if a piece was begun; or it could not be read, which has been said.
-#[derive(Drop)]
+#[derive(Clone, Copy)]
 pub enum Input {
     Held(usize),
     Over,

@@ -87,7 +87,7 @@ pub const CYCLE_LENGTH: usize = 8;
 const COUNT_SPARED: usize = 2;
 
 // Who sets a parameter.
-#[derive(Drop)]
+#[derive(Clone, Copy)]
 pub enum Owner {
     Controller,
     Port,
@@ -95,7 +95,7 @@ pub enum Owner {
 }
 
 // A row of the table: name, least and greatest length, where its room starts, who sets it, its value rule.
-#[derive(Drop)]
+#[derive(Clone, Copy)]
 pub struct Row {
     pub name: usize,
     pub least: usize,

@@ -33,7 +33,7 @@ pub struct Tally {
 }
 
 // A tally, and whether an operation may have changed memory: where none may, the copy still is the memory.
-#[derive(Drop)]
+#[derive(Clone, Copy)]
 pub struct Taken {
     pub tally: Tally,
     pub changed: bool,

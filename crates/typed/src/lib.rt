@@ -11,7 +11,7 @@ ghost use Rattle.typed.specs.Scanning.{whole_octets, Goes, Scans};
 pub const KEPT_MOST: usize = 4097;
 
 // What an octet is: a hexadecimal digit, a blank, `-`, or anything else.
-#[derive(Drop)]
+#[derive(Clone, Copy)]
 pub enum Sign {
     Hex(u8),
     Space,
@@ -43,7 +43,7 @@ pub enum Form {
 }
 
 // A line so far. The octets are at the front of a room.
-#[derive(Drop)]
+#[derive(Clone, Copy)]
 pub struct Line {
     pub form: Form,
     pub comment: bool,
@@ -51,14 +51,14 @@ pub struct Line {
 }
 
 // A line that goes on at a place in what is held.
-#[derive(Drop)]
+#[derive(Clone, Copy)]
 struct Run {
     line: Line,
     at: usize,
 }
 
 // A line to a place in what is held; whether it has ended there.
-#[derive(Drop)]
+#[derive(Clone, Copy)]
 pub struct Scanned {
     pub line: Line,
     pub at: usize,
