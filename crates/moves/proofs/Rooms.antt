@@ -1,12 +1,10 @@
 -- The length of what a move reads, what it gives at each way out, and the room filled.
 use Prim.Native.Nat.{ℕ, ◌+◌}
 use native.Mathlib.Omega.{arith}
-use types.Run.{OneOf, miss}
 use mathlib.Core.Path.{◌≡◌, refl, ap, ◌∙◌}
 use mathlib.Core.Bool.{true}
 use mathlib.Core.List.{List, [], ◌∷◌, ◌++◌, append-nil}
 use lib.ListN.{length, length-drop, set, drop_of_length-le}
-use denote.Enum.Declared.{tag_of}
 use Rattle.meaning.specs.Octets.{splice}
 use Rattle.meaning.specs.Calls.{Outcome, number_only}
 use Rattle.meaning.specs.FormB.{behind, sound_form_b}
@@ -15,7 +13,6 @@ use Rattle.meaning.proofs.Moved.{moved}
 use Rattle.moves.specs.declared.Moved.{Moved}
 use Rattle.moves.specs.declared.Moved.TheVariants.{Done, MemoryUnsound, RoomNotExact, NotRelease18, InFlight}
 use Rattle.moves.specs.Moved.{number_of, length_of, Gives}
-use Rattle.moves.specs.contracts.Moved.{the_type}
 
 -- memory that is sound in form B has 2,101 octets, whatever its profile, and 2,100 of them stand behind that
 pub form-long : (b : List ℕ) → sound_form_b b ≡ true → length b ≡ 2101
@@ -41,9 +38,10 @@ filled_behind x (y ∷ room) m h =
     ap (λ (t : List ℕ). x ∷ m ++ t) (drop_of_length-le (x ∷ room) {i = 1 + length m} (omega (arith, h)))
     ∙ ap (λ (t : List ℕ). x ∷ t) (append-nil m)
 
-pub nothing_written : (r : Moved) → OneOf (1 ∷ 2 ∷ 3 ∷ 4 ∷ []) (tag_of the_type r) → length_of r ≡ 0
+-- an answer that is not done wrote nothing
+pub nothing_written : (r : Moved) → ((n : ℕ) → r ≡ Done n → ⊥) → length_of r ≡ 0
 unfolding length_of
-nothing_written (Done n) t = absurd (miss (1 ∷ 2 ∷ 3 ∷ 4 ∷ []) 0 tt t)
+nothing_written (Done n) t = absurd (t n refl)
 nothing_written MemoryUnsound t = refl
 nothing_written RoomNotExact t = refl
 nothing_written NotRelease18 t = refl

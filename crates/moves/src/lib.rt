@@ -1,5 +1,7 @@
 // The moves between the old form of memory and form B (RULES 23): what a fitter's tool calls when a bridge in the field gets
 // this endpoint, or its old firmware again. Memory is read and left as it is; the other form is written to a room.
+#![tactic(auto)]
+
 ghost use Rattle.std.specs.Prelude.{◌≡◌};
 ghost use Rattle.meaning.specs.Moves.{forward, back};
 ghost use Rattle.moves.specs.Moved.{number_of, length_of, Gives};
