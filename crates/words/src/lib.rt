@@ -1,5 +1,7 @@
 // What a captured message prints (RULES 21): words of parameters and causes, a line for each record. Each function writes at
 // a place of a room, returns the place after what it wrote, and says by a definition what every octet holds afterwards.
+#![tactic(auto)]
+
 ghost use Rattle.std.specs.Prelude.{◌+◌, ◌≤◌, length};
 ghost use Rattle.meaning.specs.Octets.{part};
 ghost use Rattle.octets.specs.Writing.{Wrote};
