@@ -1,8 +1,8 @@
 -- A whole message told: the line of a refusal, or the first line and those of its records, and how much room all of them may take.
-use Prim.Native.Nat.{ℕ, zero, suc, ◌+◌, ◌*◌, ◌-◌, ◌≤◌, ◌<◌}
+use Prim.Native.Nat.{ℕ, zero, suc, ◌+◌, ◌*◌, ◌≤◌, ◌<◌}
 use native.Mathlib.Decide.{ℕ_discrete}
 use native.Mathlib.Omega.{arith}
-use mathlib.Core.Path.{◌≡◌, refl, sym, ap, subst, ◌∙◌}
+use mathlib.Core.Path.{◌≡◌, refl, ap}
 use mathlib.Core.Logic.{inl, inr}
 use mathlib.Core.Bool.{Bool, true, false, ◌&&◌, cond}
 use mathlib.Core.List.{List, [], ◌∷◌, ◌++◌, map}
@@ -11,7 +11,7 @@ use lib.ListN.{length, length-append, length-map}
 use lib.Dec.{eqb, leb, ltb}
 use borrow.Author.Tests.{leb-true, ne_eqb}
 use Rattle.meaning.specs.Octets.{be16, flat}
-use Rattle.meaning.specs.Checks.{when_passed, first_failed}
+use Rattle.meaning.specs.Checks.{when_passed}
 use Rattle.meaning.specs.Reply.{Held, Failed, held_octets, short_octets, failed_octets}
 use Rattle.meaning.specs.Capture.{Capture, capturing, OneRecord, a_name, a_value, a_read_error, an_update, an_update_error, a_long_update, in_order, read_cause, update_cause, length_octets, is_reply, capture_checks, capture}
 use Rattle.meaning.proofs.Lists.{Octets}
@@ -30,7 +30,7 @@ use Rattle.capture.specs.declared.Handed.TheVariants.{Record, End, MessageEmpty,
 use Rattle.capture.proofs.ToTheEnd.{to_the_end, first_holds}
 use Rattle.text.specs.Lines.{line}
 use Rattle.words.specs.Lines.{record_line, record_size, complete_line, notify_line, message_lines}
-use Rattle.telling.specs.Remaining.{head_line, sizes, remaining, Ready}
+use Rattle.telling.specs.Remaining.{head_line, sizes}
 use Rattle.telling.proofs.Records.{Onward, onward}
 
 -- ---- the number

@@ -1,12 +1,9 @@
 -- Records told one after another: one line more is written, what is left is one record less, and at last nothing is left.
-use Prim.Native.Nat.{ℕ, zero, suc, ◌+◌, ◌*◌, ◌≤◌, ◌<◌}
+use Prim.Native.Nat.{ℕ, ◌+◌, ◌*◌, ◌≤◌, ◌<◌}
 use native.Mathlib.Omega.{arith}
-use types.Run.{OneOf, miss}
 use mathlib.Core.Path.{◌≡◌, refl, sym, ap, subst, ◌∙◌}
 use mathlib.Core.List.{List, [], ◌∷◌, ◌++◌}
-use mathlib.Core.Option.{Option, some}
 use lib.ListN.{length, length-append}
-use denote.Enum.Declared.{tag_of}
 use Rattle.meaning.specs.Octets.{splice, flat}
 use Rattle.meaning.specs.Capture.{Capture, OneRecord, in_order}
 use Rattle.meaning.proofs.Lists.{splice-length}
@@ -18,7 +15,6 @@ use Rattle.capture.specs.declared.Record as declared
 use Rattle.capture.specs.declared.Handed.{Handed}
 use Rattle.capture.specs.declared.Handed.TheVariants.{Record, End, MessageEmpty, MessageTooLong, TypeUnknown, CutShort}
 use Rattle.capture.proofs.FromCursor.{Holds, Next, ends, hands, next}
-use Rattle.capture.specs.contracts.Handed.{the_type}
 use Rattle.words.specs.Lines.{record_line, record_size}
 use Rattle.words.proofs.Short.{line-bounded}
 use Rattle.telling.specs.Remaining.{sizes, held, remaining, Ready}
@@ -58,9 +54,9 @@ pub telling_start : (s out : List ℕ) (at : ℕ) (first : Handed) → Ready s f
 telling_start s out at first r h = record { ready = r; same = refl; place = refl; room = h; long = refl }
 
 -- nothing is left
-pub not_record : (s : List ℕ) (h : Handed) → OneOf (1 ∷ 2 ∷ 3 ∷ 4 ∷ 5 ∷ []) (tag_of the_type h) → remaining s h ≡ []
+pub not_record : (s : List ℕ) (h : Handed) → ((r : declared.Record) (c : Cursor) → h ≡ Record r c → ⊥) → remaining s h ≡ []
 unfolding remaining
-not_record s (Record r c) t = absurd (miss (1 ∷ 2 ∷ 3 ∷ 4 ∷ 5 ∷ []) 0 tt t)
+not_record s (Record r c) t = absurd (t r c refl)
 not_record s End t = refl
 not_record s MessageEmpty t = refl
 not_record s MessageTooLong t = refl

@@ -1,17 +1,17 @@
 -- The line of one record: the room that it asks for and the value that it has, by the kind of the record.
-use Prim.Native.Nat.{ℕ, ◌+◌, ◌*◌, ◌-◌, ◌≤◌, ◌<◌}
+use Prim.Native.Nat.{ℕ, ◌+◌, ◌*◌, ◌≤◌}
 use native.Mathlib.Omega.{arith}
-use mathlib.Core.Path.{◌≡◌, refl, sym, ap, subst, ◌∙◌}
-use mathlib.Core.List.{List, []}
-use lib.ListN.{length, take, drop}
+use mathlib.Core.Path.{◌≡◌, subst}
+use mathlib.Core.List.{List}
+use lib.ListN.{length}
 use borrow.Author.Tests.{eq-eqb, ne_eqb}
-use Rattle.meaning.specs.Octets.{octet, part}
+use Rattle.meaning.specs.Octets.{octet}
 use Rattle.meaning.proofs.Lists.{length_part}
 use Rattle.capture.specs.Handing.{record_of, Inside}
 use Rattle.capture.specs.declared.Record.{Record}
 use Rattle.capture.specs.declared.Record.TheVariants.{Name, Value, ReadError, Update, UpdateError, LongUpdate}
 use Rattle.meaning.specs.Capture.{is_reply}
-use Rattle.words.specs.Lines.{record_line, record_size, complete_line, notify_line}
+use Rattle.words.specs.Lines.{record_size, complete_line, notify_line}
 use Rattle.telling.specs.Remaining.{head_line}
 
 module _ (s : List ℕ) (t : Record) (at len : ℕ) (i : Inside s t) (h : at + 24 * record_size (record_of s t) ≤ len) where

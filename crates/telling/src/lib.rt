@@ -1,5 +1,7 @@
 // What a captured message prints (RULES 21): its type and a line for each record that it hands out, or the number that it is
 // refused with. The lines are written at a place of a room, which has to take those of the longest message.
+#![tactic(auto)]
+
 ghost use Rattle.std.specs.Prelude.{◌+◌, ◌*◌, ◌≤◌, ◌≡◌, length};
 ghost use Rattle.meaning.specs.Octets.{flat};
 ghost use Rattle.octets.specs.Writing.{Wrote};
