@@ -32,7 +32,7 @@ def texts(root):
 
 
 def snake(word):
-    return re.sub(r"(?<=[a-z0-9])[A-Z]+", lambda m: "_" + m.group(0).lower(), word)
+    return re.sub(r"(?<=[a-z0-9])[A-Z]|(?<=[A-Z])[A-Z](?=[a-z])", lambda m: "_" + m.group(0), word).lower()
 
 
 def declared(root):

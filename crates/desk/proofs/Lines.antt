@@ -19,12 +19,12 @@ use Rattle.typed.specs.declared.Scanned.{Scanned}
 use Rattle.typed.specs.Forms.{Small, Typed, fresh, typed, typed_all, typed_in, Keeps}
 use Rattle.typed.specs.Scanning.{is_feed, before_feed, has_feed, behind_feed, Scans}
 use Rattle.typed.specs.contracts.Form.{the_type}
-use Rattle.words.specs.Lines.{not_amessage}
+use Rattle.words.specs.Lines.{not_a_message}
 use Rattle.desk.specs.Lines.{answer_by, answer_of, printed, last_of, Batched}
 
 -- ---- what a line prints that stands for none of the others
 
-pub other_form : (f : Form) (s : List ℕ) → OneOf (1 ∷ 2 ∷ 6 ∷ 8 ∷ []) (tag_of the_type f) → answer_by f s ≡ not_amessage
+pub other_form : (f : Form) (s : List ℕ) → OneOf (1 ∷ 2 ∷ 6 ∷ 8 ∷ []) (tag_of the_type f) → answer_by f s ≡ not_a_message
 unfolding answer_by
 other_form Blank s t = absurd (miss (1 ∷ 2 ∷ 6 ∷ 8 ∷ []) 0 tt t)
 other_form (Digit h) s t = refl
@@ -41,7 +41,7 @@ pub form-answer : (room : List ℕ) (l : Line) (f : Form) → l.form ≡ f → a
 unfolding answer_of
 form-answer room l f e = ap (λ (x : Form). answer_by x (take l.count room)) e
 
-pub other_answer : (room : List ℕ) (l : Line) → OneOf (1 ∷ 2 ∷ 6 ∷ 8 ∷ []) (tag_of the_type l.form) → answer_of (typed_in room l) ≡ not_amessage
+pub other_answer : (room : List ℕ) (l : Line) → OneOf (1 ∷ 2 ∷ 6 ∷ 8 ∷ []) (tag_of the_type l.form) → answer_of (typed_in room l) ≡ not_a_message
 unfolding answer_of
 other_answer room l t = other_form l.form (take l.count room) t
 

@@ -6,21 +6,21 @@ use Rattle.typed.specs.declared.Line.{Line}
 use Rattle.typed.specs.Forms.{Typed, fresh, typed, typed_in, Keeps}
 use Rattle.typed.specs.Scanning.{is_feed}
 use Rattle.text.specs.Lines.{line}
-use Rattle.words.specs.Lines.{message_lines, not_amessage}
+use Rattle.words.specs.Lines.{message_lines, not_a_message}
 use Rattle.desk.specs.declared.Served.{Served}
 use Rattle.desk.specs.declared.Served.TheVariants.{Goes, Closed}
 
 -- by what a line stands for: nothing, a message, a number, or anything else (RULES 21)
 unfoldable pub answer_by : Form → List ℕ → List ℕ
 answer_by Blank s = []
-answer_by (Digit h) s = not_amessage
-answer_by (Lead n) s = not_amessage
+answer_by (Digit h) s = not_a_message
+answer_by (Lead n) s = not_a_message
 answer_by (Number n) s = message_lines s
 answer_by (Numbered n) s = message_lines s
 answer_by Octets s = message_lines s
-answer_by (Half h) s = not_amessage
+answer_by (Half h) s = not_a_message
 answer_by (Refused n) s = line n []
-answer_by Other s = not_amessage
+answer_by Other s = not_a_message
 
 unfoldable pub answer_of : Typed → List ℕ
 answer_of t = answer_by t.form t.octets

@@ -14,7 +14,7 @@ pub const FORM_B_LENGTH: usize = table::FORM_LENGTH;
 // What a move answers: done, with the length of what it wrote; or why nothing was done. The memory is not sound in the form
 // that is to be read; the room is not exactly as long as the other form; the profile is not that of the old form; a change is in
 // flight, which the old form cannot say.
-#[derive(Drop)]
+#[derive(Clone, Copy)]
 pub enum Moved {
     Done(usize),
     MemoryUnsound,

@@ -45,8 +45,8 @@ message_lines s =
     (λ n. line n [])
 
 -- what a line prints that is no message and stands for nothing
-unfoldable pub not_amessage : List ℕ
-not_amessage = letters "not a message\n"
+unfoldable pub not_a_message : List ℕ
+not_a_message = letters "not a message\n"
 
 -- octets that a record takes in a message: name (2), length (2, or 1 of an update), value; name (2), cause
 unfoldable pub record_size : OneRecord → ℕ

@@ -7,7 +7,7 @@ ghost use Rattle.meaning.specs.Octets.{part};
 ghost use Rattle.octets.specs.Writing.{Wrote};
 ghost use Rattle.meaning.specs.Capture.{a_name, a_value, a_read_error, an_update, an_update_error, a_long_update};
 ghost use Rattle.words.specs.Words.{word_at, word, cause_word};
-ghost use Rattle.words.specs.Lines.{started, held_line, failed_line, record_line, complete_line, notify_line, not_amessage};
+ghost use Rattle.words.specs.Lines.{started, held_line, failed_line, record_line, complete_line, notify_line, not_a_message};
 
 // The word at a place from 8 on, and of no parameter; the others are in `write_word`. Two functions have them, since one
 // `match` over all takes several times as long to prove. Each word is a copy of a constant.
@@ -197,7 +197,7 @@ pub fn write_notify(out: &mut [u8], at: usize) -> usize
 // For a line that stands for no message.
 pub fn write_not_a_message(out: &mut [u8], at: usize) -> usize
     requires { at + 14 ≤ length out.old }
-    ensures { Wrote out.old at not_amessage result out.new }
+    ensures { Wrote out.old at not_a_message result out.new }
 {
     octets::append(out, at, b"not a message\n")
 }
