@@ -61,12 +61,12 @@ instant-fits s = at (ltb (nanoseconds s) 0x8000000000000000) refl
 
 -- ---- gates that are not open
 
-pub not_open : (g : Gates) → OneOf (0 ∷ 1 ∷ []) (tag_of the_type g) → (gates_number (answer_of g) < 100) × (gates_line (answer_of g) ≡ line (gates_number (answer_of g)) [])
+pub not_open : (g : Gates) → ((s k d : ℕ) → g ≡ Open s k d → ⊥) → (gates_number (answer_of g) < 100) × (gates_line (answer_of g) ≡ line (gates_number (answer_of g)) [])
 unfolding answer_of refusal_number gates_number gates_line
 not_open (Refused MemoryUnsound) t = (omega arith, refl)
 not_open (Refused NothingRuns) t = (omega arith, refl)
 not_open NotStarted t = (omega arith, refl)
-not_open (Open s k d) t = absurd (miss (0 ∷ 1 ∷ []) 2 tt t)
+not_open (Open s k d) t = absurd (t s k d refl)
 
 pub gates-short : (g : meaning.Gates) → length (gates_line g) ≤ 50
 unfolding gates_line
