@@ -1,5 +1,5 @@
--- A frame answered in the program is one piece taken; what is known of the rest.
-use Prim.Native.Nat.{ℕ, ◌+◌, ◌-◌, ◌≤◌, ◌<◌}
+-- A frame answered in the program is one piece taken.
+use Prim.Native.Nat.{ℕ, ◌+◌, ◌-◌, ◌≤◌}
 use native.Mathlib.Omega.{arith}
 use mathlib.Core.Path.{◌≡◌, sym, ap}
 use mathlib.Core.Bool.{true}
@@ -10,9 +10,7 @@ use Rattle.stdio.specs.Pieces.{needed}
 use Rattle.stdio.specs.Taking.{Piece, Between, piece_at, whole_at, goes_on, line_at, next}
 use Rattle.stdio.proofs.Taking.{Joins, turn, cut_out}
 use Rattle.answers.specs.Answers.{Port, Answers}
-use Rattle.bridge.specs.Frames.{outcome_of, frames, port, Serves}
-use Rattle.bridge.specs.declared.Served.{Served}
-use Rattle.bridge.specs.declared.Served.TheVariants.{Rest}
+use Rattle.bridge.specs.Frames.{outcome_of, frames, port}
 
 between_is : {memory memory' room room' : List ℕ} {from from' : ℕ} → memory ≡ memory' → room ≡ room' → from ≡ from' → port memory room from ≡ port memory' room' from'
 between_is e f g = rw (e, f, g)
@@ -27,8 +25,3 @@ frame_turn held out p memory room from at {end} {to} {memory'} {room'} {out'} j 
     let o = message memory (piece_at 2 held from).body room in
     let b : Answers o out at to memory' room' out' = rw (sym (ap (λ (x : Piece). x.body) (cut_out 2 held from e))) a in
     turn frames (omega arith) held out p (port memory room from) at j k (rw w) (between_is b.memory_is b.room_is e) b.wrote
-
-pub rest : (held : List ℕ) (p : Between Port) (memory room : List ℕ) {from : ℕ} {r : Served} → r ≡ Rest from → Serves held p r memory room → (from ≤ length held) × (length held < from + 65537)
-rest held p memory room {from} e f =
-    let g : Serves held p (Rest from) memory room = rw e at f in
-    (g.1, omega (arith, g.2.1))
