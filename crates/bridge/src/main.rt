@@ -19,14 +19,14 @@ const DUE: usize = 65536;
 const LINE: usize = 2 * endpoint::REPLY_MOST + 5;
 
 // How far the frames that are held are answered: the place of the next frame, and the place after the lines.
-#[derive(Drop)]
+#[derive(Clone, Copy)]
 struct Batch {
     from: usize,
     at: usize,
 }
 
 // What became of the frames that are held: the place from which more input is wanted, or that output cannot be written.
-#[derive(Drop)]
+#[derive(Clone, Copy)]
 enum Served {
     Rest(usize),
     Closed,

@@ -20,7 +20,7 @@ const DUE: usize = 32768;
 
 // How far the lines that are held are answered: the line that goes on, the place of what is not yet taken, and the place
 // behind what is printed.
-#[derive(Drop)]
+#[derive(Clone, Copy)]
 struct Batch {
     line: Line,
     from: usize,
@@ -28,7 +28,7 @@ struct Batch {
 }
 
 // What became of the input that is held: the line that goes on, or that output cannot be written.
-#[derive(Drop)]
+#[derive(Clone, Copy)]
 enum Served {
     Goes(Line),
     Closed,

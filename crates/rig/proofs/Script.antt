@@ -1,5 +1,5 @@
--- An instruction taken in the program is one piece taken, and a faulty one is the last; what is known of the rest.
-use Prim.Native.Nat.{ℕ, ◌+◌, ◌-◌, ◌≤◌, ◌<◌}
+-- An instruction taken in the program is one piece taken, and a faulty one is the last.
+use Prim.Native.Nat.{ℕ, ◌+◌, ◌-◌, ◌≤◌}
 use native.Mathlib.Omega.{arith}
 use mathlib.Core.Path.{◌≡◌, refl, sym, ap, subst, ◌∙◌}
 use mathlib.Core.Logic.{inl}
@@ -23,9 +23,7 @@ use Rattle.script.proofs.Lend.{front_is}
 use Rattle.script.specs.declared.Lent.{Lent}
 use Rattle.script.specs.declared.Took.{Took}
 use Rattle.script.specs.declared.Took.TheVariants as took
-use Rattle.rig.specs.Script.{effect_of, instructions, port, Serves}
-use Rattle.rig.specs.declared.Served.{Served}
-use Rattle.rig.specs.declared.Served.TheVariants.{Rest}
+use Rattle.rig.specs.Script.{effect_of, instructions, port}
 
 module _ (held out : List ℕ) (p : Between Port) (memory room : List ℕ) (lent : Lent) (from at : ℕ) (r : Took) (memory' room' out' : List ℕ) {end : ℕ}
     (j : Joins instructions held p (port memory room lent from) at out) (k : at ≤ length out) (w : whole_at 3 held from ≡ true) (e : end ≡ from + needed held from 3)
@@ -47,12 +45,6 @@ module _ (held out : List ℕ) (p : Between Port) (memory room : List ℕ) (lent
       let g : Joins instructions held p (port memory' room' lent from) at out' = rw (b.1, b.2, b.3) j in
       let l : at ≤ length out' = rw b.3 k in
       ((w, b.0), g.0, cut_off instructions (omega arith) held out' p (port memory' room' lent from) at g l (w, b.0) c)
-
-pub rest : (held : List ℕ) (p : Between Port) (memory room : List ℕ) {from : ℕ} {lends : Lent} {r : Served} → r ≡ Rest from lends → Serves held p r memory room
-    → (from ≤ length held) × (length held < from + 65538) × Lends lends
-rest held p memory room {from} {lends} e f =
-    let g : Serves held p (Rest from lends) memory room = rw e at f in
-    (g.1, omega (arith, g.2.1), g.3)
 
 -- memory of the right length made fresh in the profile of Release 18
 pub made_fresh : (b : List ℕ) → length b ≡ form_length → (make_fresh b release18).memory ≡ ahead release18 fresh

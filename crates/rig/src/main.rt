@@ -27,7 +27,7 @@ const LINE: usize = 2 * script::MOST_ROOM + 12;
 
 // How far the instructions that are held are taken: the place of the next one, the place after the lines, what is lent,
 // and whether the next one is faulty.
-#[derive(Drop)]
+#[derive(Clone, Copy)]
 struct Batch {
     from: usize,
     at: usize,
@@ -37,7 +37,7 @@ struct Batch {
 
 // What became of the instructions that are held: the place from which more input is wanted, and what is lent; or that one
 // is faulty, or output cannot be written.
-#[derive(Drop)]
+#[derive(Clone, Copy)]
 enum Served {
     Rest(usize, Lent),
     Faulty,
