@@ -1,4 +1,6 @@
 // The line of a call's outcome, as `bridge` and `rig` print it: written at a place of a room, with the place after it returned.
+#![tactic(auto)]
+
 ghost use Rattle.std.specs.Prelude.{◌+◌, ◌≤◌, ◌<◌, length};
 ghost use Rattle.octets.specs.Writing.{Wrote};
 ghost use Rattle.endpoint.specs.Outcomes.{length_of, position_of};

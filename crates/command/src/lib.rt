@@ -1,5 +1,7 @@
 // One operation of a command carried out on the working copy: the memory that it leaves and the answer that it gives, by the
 // port's profile. Both are those of `meaning`, for sound memory.
+#![tactic(auto)]
+
 ghost use Rattle.std.specs.Prelude.{◌+◌, ◌≤◌, ◌<◌, ◌≡◌, true, cond, length};
 ghost use Rattle.meaning.specs.Octets.{part};
 ghost use Rattle.meaning.specs.Checks.{first_failed};

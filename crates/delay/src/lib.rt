@@ -1,5 +1,7 @@
 // Whole nanoseconds and delay units as two kinds, each converted to the other, and a delay's eight octets, the LOW octet first.
 // Each function says by a definition what it returns, for every argument.
+#![tactic(auto)]
+
 ghost use Rattle.std.specs.Prelude.{◌<◌, ◌%◌, ◌^◌, ◌≡◌};
 ghost use Rattle.meaning.specs.Delay.{units, low_first, delay, nanoseconds_in, units_over};
 ghost use Rattle.delay.specs.Stored.{stored_in};

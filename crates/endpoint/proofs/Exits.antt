@@ -1,13 +1,11 @@
 -- One law for each way out of a call: what the definition gives there.
 use Prim.Native.Nat.{ℕ, ◌+◌, ◌-◌, ◌≤◌, ◌<◌}
 use native.Mathlib.Omega.{arith}
-use types.Run.{OneOf, miss}
 use mathlib.Core.Path.{◌≡◌, refl, sym, ap, ◌∙◌}
 use mathlib.Core.Bool.{true, false, false≢true}
 use mathlib.Core.Option.{Option, none, some}
 use mathlib.Core.List.{List, [], ◌∷◌, ◌++◌}
 use lib.ListN.{length, take, drop, set}
-use denote.Enum.Declared.{tag_of}
 use borrow.Author.Tests.{le-leb, lt-leb}
 use Rattle.meaning.specs.Octets.{nonempty, octet, at16, part, implies, every}
 use Rattle.meaning.specs.Checks.{first_failed, when_passed}
@@ -26,7 +24,6 @@ use Rattle.octets.proofs.Splices.{part_is}
 use Rattle.endpoint.specs.declared.Outcome.{Outcome}
 use Rattle.endpoint.specs.declared.Outcome.TheVariants.{Done, MemoryUnsound, MessageEmpty, MessageTooLong, TypeUnknown, LengthWrong, OperationMalformed, ReplyDoesNotFit, Idle, NothingPending, AlreadyWaiting, NotificationRoomTooSmall, NotPermitted, ProfileUnknown, SendAgain, GivenUp}
 use Rattle.endpoint.specs.Outcomes.{number_of, length_of, position_of, Gives, reply, command, acknowledgement}
-use Rattle.endpoint.specs.contracts.Outcome.{the_type}
 
 -- a refusal: the number, and nothing changed
 pub gives_number : (m room : List ℕ) (n : ℕ) (r : Outcome) {o : calls.Outcome} → o ≡ number_only n m room → number_of r ≡ n → length_of r ≡ 0 → position_of r ≡ 0 → Gives o r m room

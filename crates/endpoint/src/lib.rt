@@ -24,6 +24,8 @@
 //
 // Each call tests what it is lent and lends the memory behind the first octet on, to a function that knows of no form, with the
 // profile that this octet is where it decides something.
+#![tactic(auto)]
+
 ghost use Rattle.std.specs.Prelude.{ℕ, ◌≤◌, ◌≡◌, true, [], length};
 ghost use Rattle.meaning.specs.Octets.{octet};
 ghost use Rattle.meaning.specs.Wire.{type_command, message_most};

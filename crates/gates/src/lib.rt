@@ -1,5 +1,7 @@
 // Which gates are open at an instant (RULES 22): what a driver of the gates asks of the running block, in memory that it lends.
 // Nothing is written, no block is copied, and each entry is looked at once at most.
+#![tactic(auto)]
+
 ghost use Rattle.std.specs.Prelude.{◌-◌, ◌/◌, ◌%◌, ◌≤◌, ◌<◌, ◌≡◌, true, length};
 ghost use Rattle.meaning.specs.Block.{form_and_fit};
 ghost use Rattle.meaning.specs.Memory.{sound};

@@ -1,4 +1,6 @@
 // Local values: which the port may set, and the entry that one leaves.
+#![tactic(auto)]
+
 ghost use Rattle.std.specs.Prelude.{◌≤◌, ◌<◌, ◌≡◌, length};
 ghost use Rattle.meaning.specs.Octets.{same};
 ghost use Rattle.meaning.specs.Table.{memory_length, entry_count, row_at};

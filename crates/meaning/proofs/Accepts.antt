@@ -1,18 +1,18 @@
 -- What the reader accepts, and nothing else: a message is accepted exactly if its octets are spelt as `Spelt` says, and then the records are those
 -- that it spells. Nothing of the reader is used to say it but how a cause reads.
-use Prim.Native.Nat.{ℕ, zero, suc, ◌+◌, ◌≤◌, ◌<◌}
+use Prim.Native.Nat.{ℕ, zero, suc, ◌≤◌, ◌<◌}
 use native.Mathlib.Omega.{arith}
-use mathlib.Core.Path.{◌≡◌, refl, sym, ap, ap₂, subst, ◌∙◌}
+use mathlib.Core.Path.{◌≡◌, refl, sym, ap, subst, ◌∙◌}
 use mathlib.Core.Bool.{Bool, true, false, ◌&&◌, ◌||◌, cond, false≢true}
 use mathlib.Core.Option.{Option, none, some}
 use mathlib.Core.List.{List, [], ◌∷◌, ◌++◌, append_assoc, append-nil}
 use lib.ListN.{length}
 use lib.Dec.{eqb, leb, ltb}
 use borrow.Author.Tests.{le-leb, leb-true, eqb-true}
-use Rattle.meaning.specs.Octets.{octet, be16, flat}
+use Rattle.meaning.specs.Octets.{be16, flat}
 use Rattle.meaning.specs.Checks.{first_failed, when_passed}
 use Rattle.meaning.specs.Reply.{Held, Failed}
-use Rattle.meaning.specs.Capture.{Capture, capturing, no_capture, merged, then_read, sized, names_in, status_in, result_in, length_octets, Elements, keeping, elements_in, elements_of, of_element, of_elements, in_reply, in_notification, is_reply, is_notification, is_there, contained, capture_checks, or_nothing, capture}
+use Rattle.meaning.specs.Capture.{Capture, capturing, merged, then_read, sized, names_in, status_in, result_in, length_octets, Elements, keeping, elements_in, elements_of, of_element, of_elements, in_reply, in_notification, is_reply, is_notification, is_there, contained, capture_checks, or_nothing, capture}
 use Rattle.meaning.proofs.Lists.{Each, Octets, each_left, each_right}
 use Rattle.meaning.proofs.Tests.{first-passed}
 use Rattle.meaning.proofs.Backwards.{then_came, some_same, alone_came, one_came, two_came}

@@ -1,20 +1,18 @@
 -- Each number of the reader, and exactly when; a refused message hands out nothing; how causes read and how elements are sized. Then examples, one
 -- statement over one list.
-use Prim.Native.Nat.{ℕ, zero, suc, ◌≤◌, ◌<◌}
+use Prim.Native.Nat.{ℕ, suc, ◌≤◌, ◌<◌}
 use native.Mathlib.Omega.{arith}
-use mathlib.Core.Path.{◌≡◌, refl, sym, ap, ◌∙◌}
-use mathlib.Core.Logic.{◌⊎◌, inl, inr}
-use mathlib.Core.Bool.{Bool, true, false, ◌||◌, cond}
+use mathlib.Core.Path.{◌≡◌, refl, ap}
+use mathlib.Core.Bool.{true, ◌||◌}
 use mathlib.Core.Option.{Option, none, some}
 use mathlib.Core.List.{List, [], ◌∷◌, ◌++◌, map, append-nil}
 use lib.ListN.{length}
-use lib.Dec.{eqb, leb}
-use borrow.Author.Tests.{le-leb, lt-leb, eq-eqb, ne_eqb}
+use borrow.Author.Tests.{le-leb, lt-leb, ne_eqb}
 use Rattle.meaning.specs.Octets.{octet, at16, part, zeros}
 use Rattle.meaning.specs.Block.{as_number_from, as_number}
 use Rattle.meaning.specs.Checks.{first_failed, when_passed}
 use Rattle.meaning.specs.Reply.{Held, Failed}
-use Rattle.meaning.specs.Capture.{Capture, capturing, no_capture, merged, OneRecord, a_name, a_value, a_read_error, an_update, an_update_error, a_long_update, in_order, update_cause, read_cause, length_octets, is_reply, is_notification, is_there, contained, capture_checks, Captured, or_nothing, capture, then_read, sized, front_name, front_held, front_failed, several, behind_count, until_end_in, until_end, exactly, names_in, status_in, longs_in, result_in, is_read, keeping, elements_in, elements_of, of_element, of_elements, in_reply, in_notification}
+use Rattle.meaning.specs.Capture.{Capture, no_capture, merged, OneRecord, a_name, a_value, a_read_error, an_update, an_update_error, a_long_update, in_order, update_cause, read_cause, length_octets, is_reply, is_notification, contained, capture_checks, Captured, or_nothing, capture, then_read, sized, front_name, front_held, front_failed, several, behind_count, until_end_in, until_end, exactly, names_in, status_in, longs_in, result_in, is_read, keeping, elements_in, elements_of, of_element, of_elements, in_reply, in_notification}
 use Rattle.meaning.proofs.Lists.{Octets}
 use Rattle.meaning.proofs.Accepts.{Spelt, found_spelt}
 

@@ -2,18 +2,17 @@
 use Prim.Native.Nat.{ℕ, zero, suc, ◌+◌, ◌/◌, ◌%◌, ◌≤◌, ◌<◌}
 use native.Mathlib.Omega.{arith}
 use mathlib.Core.Path.{◌≡◌, refl, sym, ap, ◌∙◌}
-use mathlib.Core.Bool.{Bool, true, false, cond}
 use mathlib.Core.Option.{Option, none, some}
 use mathlib.Core.List.{List, [], ◌∷◌, ◌++◌, append_assoc, append-nil}
 use lib.ListN.{length, take, drop, length-append}
 use lib.Seq.{take_at, drop_at, drop-drop}
 use borrow.Author.Tests.{le-leb, lt-leb}
-use Rattle.meaning.specs.Octets.{octet, at16, be16, part, flat}
+use Rattle.meaning.specs.Octets.{octet, be16, part, flat}
 use Rattle.meaning.specs.Block.{as_number, as_number_from}
 use Rattle.meaning.specs.Reply.{Held, Failed, held_octets, short_octets, failed_octets}
 use Rattle.meaning.specs.Capture.{then_read, sized, front_name, front_held, front_failed, several, behind_count, until_end_in, until_end, exactly, longs_in}
 use Rattle.meaning.proofs.Lists.{Each, at16-be16}
-use Rattle.meaning.proofs.Decode.{GoodHeld, GoodFailed}
+use Rattle.meaning.proofs.Decode.{GoodHeld}
 
 -- ---- octets behind a length of none, one or two octets
 

@@ -1,36 +1,36 @@
 -- All that the port writes reads back: the reader accepts every reply to a command that is carried out and every notification that is built,
 -- and gives exactly the records that were answered.
-use Prim.Native.Nat.{ℕ, zero, suc, ◌+◌, ◌/◌, ◌%◌, ◌≤◌, ◌<◌}
+use Prim.Native.Nat.{ℕ, zero, suc, ◌+◌, ◌≤◌, ◌<◌}
 use native.Mathlib.Omega.{arith}
 use mathlib.Core.Path.{◌≡◌, refl, sym, ap, ◌∙◌}
 use mathlib.Core.Bool.{Bool, true, false, ◌&&◌, ◌||◌, not, cond, false≢true}
 use mathlib.Core.Option.{Option, none, some}
-use mathlib.Core.List.{List, [], ◌∷◌, ◌++◌, append_assoc, append-nil}
-use lib.ListN.{length, length-append}
+use mathlib.Core.List.{List, [], ◌∷◌, ◌++◌, append-nil}
+use lib.ListN.{length}
 use borrow.Author.Tests.{le-leb}
 use Rattle.meaning.specs.Octets.{at16, be16, flat, nonempty}
 use Rattle.meaning.specs.Checks.{first_failed, when_passed}
-use Rattle.meaning.specs.Table.{row_at, rows, entry_count}
+use Rattle.meaning.specs.Table.{row_at, entry_count}
 use Rattle.meaning.specs.Memory.{present, pending, set_timer, sound}
 use Rattle.meaning.specs.Profile.{is_release16, cause_absent}
 use Rattle.meaning.specs.Operation.{Op}
 use Rattle.meaning.specs.Reply.{Held, Failed, failed, Records, held_octets, short_octets, failed_octets, read_contents, long_octets, set_contents, all_names, element, any_read, any_set, complete, gathered}
 use Rattle.meaning.specs.Calls.{Outcome, is_command, ops_of, records, message, done, reports, notification, when_sent, turned, build_checks, build}
-use Rattle.meaning.specs.Capture.{Capture, capturing, no_capture, merged, then_read, sized, front_name, front_held, front_failed, update_cause, read_cause, behind_count, until_end_in, until_end, exactly, names_in, status_in, longs_in, result_in, length_octets, Elements, is_read, keeping, elements_of, of_element, of_elements, in_reply, in_notification, contained, is_reply, is_notification, capture_checks, Captured, or_nothing, capture}
+use Rattle.meaning.specs.Capture.{Capture, capturing, no_capture, then_read, front_name, front_held, front_failed, update_cause, read_cause, until_end_in, until_end, exactly, names_in, status_in, longs_in, result_in, length_octets, Elements, is_read, keeping, elements_of, of_element, of_elements, in_reply, in_notification, contained, is_reply, is_notification, capture_checks, or_nothing, capture}
 use Rattle.meaning.proofs.Lists.{Each, Octets, each_append}
 use Rattle.meaning.proofs.Tests.{first-passed}
 use Rattle.meaning.proofs.Checked.{call-done, call-passed}
 use Rattle.meaning.proofs.Places.{name-small}
 use Rattle.meaning.proofs.Contents.{first_names, last_names, names_spelt}
 use Rattle.meaning.proofs.Profiles.{in_sound}
-use Rattle.meaning.proofs.Records.{read_length, set-length, complete-length}
+use Rattle.meaning.proofs.Records.{set-length, complete-length}
 use Rattle.meaning.proofs.Decode.{GoodHeld, Good}
 use Rattle.meaning.proofs.Answered.{Answered, end, lists_names, reads_value, reads_unlisted, reads_absent, sets_short, sets_long, sets_unlisted, sets_foreign, sets_wrong, subscribes, unsubscribes, reads_selected, subscribes_selected, unsubscribes_selected, deletes_entry, answered, records_good, sets_too_long}
 use Rattle.meaning.proofs.Accepted.{carried_accepted, accepted_call}
 use Rattle.meaning.proofs.Cut.{whole_fine}
 use Rattle.meaning.proofs.Fronts.{GoodShort, GoodCause, held_front, short_front, failed_front, count_front, count_last, end_front, held_some, longs_spelt}
 use Rattle.meaning.proofs.Notified.{reports_are, reports_say, pending_values, pending_errors, notification-most, notification-head}
-use Rattle.meaning.proofs.Walked.{Element, length_spelt, spelling, walk_from, walk-nil, walk-element}
+use Rattle.meaning.proofs.Walked.{length_spelt, spelling, walk_from, walk-nil, walk-element}
 use Rattle.meaning.proofs.Skipped.{kept_of, unread, contents_alone}
 
 -- ---- records that read as themselves

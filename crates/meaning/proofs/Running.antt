@@ -9,7 +9,7 @@ use mathlib.Core.Bool.{Bool, true, false, ◌&&◌, ◌||◌, not, cond, false�
 use mathlib.Core.List.{List, [], ◌∷◌, ◌++◌}
 use lib.ListN.{length, get_or}
 use lib.Dec.{eqb}
-use borrow.Author.Tests.{eqb-true, eq-eqb, ltb-false}
+use borrow.Author.Tests.{eqb-true, eq-eqb}
 use Rattle.meaning.specs.Octets.{octet, nonempty}
 use Rattle.meaning.specs.Checks.{first_failed, when_passed}
 use Rattle.meaning.specs.Table.{Row, nobody, row, row_at, rows, place_in, place, by_controller, by_port, free, entry_count, commit}

@@ -1,19 +1,18 @@
 -- What is skipped changes nothing that is read: unknown elements, known ones behind one as high or higher, and octets behind a notification's
 -- contents. And which elements are read, said of the list of elements alone.
-use Prim.Native.Nat.{ℕ, zero, suc, ◌+◌, ◌≤◌, ◌<◌}
+use Prim.Native.Nat.{ℕ, suc, ◌+◌, ◌≤◌, ◌<◌}
 use native.Mathlib.Decide.{ℕ_discrete, dec_le}
 use native.Mathlib.Omega.{arith}
-use mathlib.Core.Path.{◌≡◌, refl, sym, ap, ap₂, ◌∙◌}
+use mathlib.Core.Path.{◌≡◌, refl, sym, ap, ◌∙◌}
 use mathlib.Core.Logic.{◌⊎◌, inl, inr}
-use mathlib.Core.Bool.{Bool, true, false, ◌&&◌, ◌||◌, not, cond, false≢true}
+use mathlib.Core.Bool.{Bool, true, false, ◌&&◌, cond, false≢true}
 use mathlib.Core.Option.{Option, none, some}
 use mathlib.Core.List.{List, [], ◌∷◌, ◌++◌, append_assoc, append-nil}
-use lib.ListN.{length, drop, length-append}
+use lib.ListN.{length, length-append}
 use lib.Dec.{eqb, leb, ltb}
 use borrow.Author.Tests.{leb-true, ltb-true, ltb-false, le-leb, lt-leb, lt-ltb, le-ltb, eq-eqb, ne_eqb}
-use Rattle.meaning.specs.Octets.{octet, be16, flat}
-use Rattle.meaning.specs.Checks.{first_failed, when_passed}
-use Rattle.meaning.specs.Capture.{Capture, then_read, sized, Elements, is_read, keeping, elements_of, of_elements, in_reply, in_notification, status_in, is_reply, is_notification, contained, capture_checks, capture}
+use Rattle.meaning.specs.Octets.{be16, flat}
+use Rattle.meaning.specs.Capture.{then_read, Elements, is_read, keeping, elements_of, of_elements, in_reply, in_notification, status_in, is_reply, is_notification, contained, capture_checks, capture}
 use Rattle.meaning.proofs.Lists.{Each}
 use Rattle.meaning.proofs.Tests.{and_left, and_right}
 use Rattle.meaning.proofs.Fronts.{sized_two}

@@ -9,7 +9,7 @@ use borrow.Author.Tests.{le-leb}
 use Rattle.meaning.specs.Octets.{every, implies, nonempty}
 use Rattle.meaning.specs.Checks.{first_failed, when_passed}
 use Rattle.meaning.specs.Table.{entry_count}
-use Rattle.meaning.specs.Memory.{timer, waiting, expiries, set_timer, present, body, subscribed, pending, in_flight, sound}
+use Rattle.meaning.specs.Memory.{waiting, expiries, set_timer, present, body, subscribed, pending, in_flight, sound}
 use Rattle.meaning.specs.Profile.{sound_in}
 use Rattle.meaning.specs.Calls.{done, number_only, call, is_command, is_acknowledgement, handled, acknowledged, fits, message_checks, message, reports, notification, Moment, when_sent, when_acknowledged, when_given_up, pending_after, in_flight_after, turned, build_checks, build, expiry_checks, expiry}
 use Rattle.meaning.proofs.Tests.{first-passed}

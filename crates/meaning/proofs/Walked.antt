@@ -1,17 +1,16 @@
 -- The elements of a reply, walked by their sizes: a whole element is passed whatever stands behind it, and kept if it is to be read.
 use Prim.Native.Nat.{ℕ, zero, suc, ◌+◌, ◌≤◌, ◌<◌}
 use native.Mathlib.Omega.{arith}
-use mathlib.Core.Path.{◌≡◌, refl, sym, ap, ◌∙◌}
-use mathlib.Core.Bool.{Bool, true, false, ◌&&◌, not, cond}
+use mathlib.Core.Path.{◌≡◌, refl, ◌∙◌}
+use mathlib.Core.Bool.{Bool, true, false, ◌&&◌, cond}
 use mathlib.Core.Option.{Option, none, some}
 use mathlib.Core.List.{List, [], ◌∷◌, ◌++◌, append_assoc}
-use lib.ListN.{length, take, drop, length-append, length-drop}
-use lib.Dec.{eqb, leb, ltb}
-use borrow.Author.Tests.{leb-true, leb-false, ltb-true, le-leb, lt-leb, le-ltb}
-use Rattle.meaning.specs.Octets.{be16, part, flat}
+use lib.ListN.{length, take, drop, length-drop}
+use lib.Dec.{leb, ltb}
+use borrow.Author.Tests.{lt-leb, le-ltb}
+use Rattle.meaning.specs.Octets.{be16, part}
 use Rattle.meaning.specs.Block.{as_number}
-use Rattle.meaning.specs.Capture.{then_read, sized, length_octets, Elements, is_read, keeping, elements_in, elements_of}
-use Rattle.meaning.proofs.Lists.{Each}
+use Rattle.meaning.specs.Capture.{then_read, sized, length_octets, Elements, is_read, keeping, elements_in}
 use Rattle.meaning.proofs.Fronts.{sized-alone, sized_one, sized_two}
 
 -- ---- an element as it is spelt

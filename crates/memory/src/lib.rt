@@ -1,5 +1,7 @@
 // Port memory: an entry read, an entry replaced in its own room, the timer's octets, fresh memory.
 // Every answer and every octet left behind is that of a definition of `meaning`.
+#![tactic(auto)]
+
 ghost use Rattle.std.specs.Prelude.{◌%◌, ◌≤◌, ◌<◌, ◌≡◌, true, false, ◌||◌, [], ◌∷◌, ◌++◌, length};
 ghost use Rattle.meaning.specs.Octets.{octet, be16, splice};
 ghost use Rattle.meaning.specs.Table.{entry_count, memory_length, row_at, admin_base_time, admin_control_list_length, admin_cycle_time, commit};

@@ -1,5 +1,7 @@
 // Notifications: what is due to be reported, its octets, and what becomes of the marks. The first two go by the pending marks
 // of a sound memory, in table order.
+#![tactic(auto)]
+
 ghost use Rattle.std.specs.Prelude.{ℕ, ◌+◌, ◌≤◌, ◌<◌, ◌≡◌, true, length};
 ghost use Rattle.meaning.specs.Table.{memory_length, entry_count};
 ghost use Rattle.meaning.specs.Wire.{notification_room};

@@ -1,5 +1,7 @@
 // The operations of a command, handed out from its list of octets by a reader (RULES 10.10), and whether a list is whole.
 // What is handed out is what `meaning` finds at the place.
+#![tactic(auto)]
+
 ghost use Rattle.std.specs.Prelude.{◌+◌, ◌≤◌, ◌<◌, ◌≡◌, length};
 ghost use Rattle.meaning.specs.Octets.{octet};
 ghost use Rattle.meaning.specs.Operation.{bad};

@@ -1,5 +1,7 @@
 // The records of replies and notifications, each written at a place of a room; what writes returns the place after it.
 // What has been written are the octets that `meaning` gives for the record; the room's other octets stay.
+#![tactic(auto)]
+
 ghost use Rattle.std.specs.Prelude.{◌+◌, ◌≤◌, ◌<◌, ◌≡◌, cond, [], ◌∷◌, ◌++◌, length};
 ghost use Rattle.meaning.specs.Octets.{be16};
 ghost use Rattle.meaning.specs.Table.{entry_count, row_at};

@@ -1,5 +1,7 @@
 // A reply written once the tally says that all of it fits: the names, what stands before the records of each kind, and
 // then, in one pass over the operations, the records.
+#![tactic(auto)]
+
 ghost use Rattle.std.specs.Prelude.{ℕ, ◌+◌, ◌≤◌, ◌<◌, ◌≡◌, ◌≢◌, true, ◌++◌, length, drop};
 ghost use Rattle.meaning.specs.Wire.{element_capability, count_most};
 ghost use Rattle.meaning.specs.Operation.{parse, or_none};

@@ -1,5 +1,7 @@
 // Schedules: which value keeps which rule, the two sums over a block, its form and fit, a commit's conditions.
 // A block is four values one behind another (RULES 8.1); every answer is that of a definition of `meaning`.
+#![tactic(auto)]
+
 ghost use Rattle.std.specs.Prelude.{◌≡◌, ◌+◌, ◌*◌, ◌%◌, ◌≤◌, true, ◌&&◌, ◌++◌, length, ◌==◌};
 ghost use Rattle.meaning.specs.Octets.{be16, same};
 ghost use Rattle.meaning.specs.Table.{row_at, admin_control_list_length, admin_control_list, admin_cycle_time};

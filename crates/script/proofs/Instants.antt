@@ -4,13 +4,11 @@ use native.Mathlib.Nat.{zero-add}
 use native.Mathlib.Omega.{arith}
 use mathlib.Core.Path.{◌≡◌, refl, sym, ap, ◌∙◌}
 use mathlib.Core.Bool.{Bool, true, false, cond}
-use mathlib.Core.List.{List, [], ◌∷◌}
+use mathlib.Core.List.{List, []}
 use lib.ListN.{length}
 use lib.IntN.{ℤ, pos, negsuc, ◌-ℤ◌}
 use lib.Dec.{ltb}
 use borrow.Author.Tests.{ltb-true, ltb-false, lt-ltb, le-ltb}
-use types.Run.{OneOf, miss}
-use denote.Enum.Declared.{tag_of}
 use mir.Syntax.{w64}
 use mir.Val.{SFits, to_z}
 use mir.Facts.{to_z_pos}
@@ -20,7 +18,6 @@ use Rattle.gates.specs.declared.Refusal.TheVariants.{MemoryUnsound, NothingRuns}
 use Rattle.gates.specs.declared.Gates.{Gates}
 use Rattle.gates.specs.declared.Gates.TheVariants.{Refused, NotStarted, Open}
 use Rattle.gates.specs.Answers.{refusal_number, answer_of}
-use Rattle.gates.specs.contracts.Gates.{the_type}
 use Rattle.text.specs.Lines.{line}
 use Rattle.text.proofs.Writes.{line-short}
 use Rattle.text.proofs.Decimals.{open_short}

@@ -1,5 +1,7 @@
 // The instructions of a script: each is a call of the endpoint over what is lent, or shows or lends something, and prints
 // a line.
+#![tactic(auto)]
+
 ghost use Rattle.std.specs.Prelude.{◌+◌, ◌≤◌, ◌<◌, ◌≡◌, true, length, take};
 ghost use Rattle.meaning.specs.Delay.{delay};
 ghost use Rattle.meaning.specs.FormB.{gates};

@@ -1,14 +1,12 @@
 -- What is known of the running block's sums, before and after an operation.
 use Prim.Native.Nat.{ℕ}
 use native.Mathlib.Omega.{arith}
-use types.Run.{OneOf, miss}
 use mathlib.Core.Path.{◌≡◌, refl, ap}
 use mathlib.Core.Logic.{◌≢◌, ⊎_elim}
 use mathlib.Core.Bool.{Bool, true, false, cond}
-use mathlib.Core.List.{List, [], ◌∷◌}
+use mathlib.Core.List.{List}
 use lib.Dec.{eqb}
 use borrow.Author.Tests.{eqb-false}
-use denote.Enum.Declared.{tag_of}
 use Rattle.meaning.specs.Octets.{part}
 use Rattle.meaning.specs.Table.{commit}
 use Rattle.meaning.specs.Memory.{body, sound}
@@ -19,10 +17,8 @@ use Rattle.meaning.proofs.Running.{step-running}
 use Rattle.operation.specs.declared.Op.{Op}
 use Rattle.operation.specs.declared.Op.TheVariants.{Capabilities, Read, Set, Subscribe, Unsubscribe, SelectiveRead, SelectiveSubscribe, SelectiveUnsubscribe, DeleteEntry}
 use Rattle.operation.specs.Handing.{op_of}
-use Rattle.operation.specs.contracts.Op as op
 use Rattle.command.specs.declared.Answer.{Answer}
 use Rattle.command.specs.declared.Answer.TheVariants.{Names, Value, ReadError, Update, UpdateError, Silent}
-use Rattle.command.specs.contracts.Answer as answer
 use Rattle.section.specs.declared.RunningSums.{RunningSums}
 use Rattle.section.specs.declared.RunningSums.TheVariants.{Unknown, Known}
 use Rattle.section.specs.Knowing.{running_sums, Knows, kept_after, learnt_from}

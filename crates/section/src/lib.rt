@@ -1,5 +1,7 @@
 // The records of a reply, each written at the place of its kind: the operations of a list run on the working copy, and what
 // each answers goes behind the records of its kind before it. So no record is kept anywhere but in the room.
+#![tactic(auto)]
+
 ghost use Rattle.std.specs.Prelude.{◌+◌, ◌≤◌, ◌<◌, ◌≡◌, true, length};
 ghost use Rattle.meaning.specs.Table.{memory_length, entry_count};
 ghost use Rattle.meaning.specs.Wire.{message_most};

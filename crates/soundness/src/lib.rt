@@ -1,5 +1,7 @@
 // Sound memory: whether lent octets, of any length, are sound port memory, in form B or in the old form. One test serves both.
 // First what the entries hold, then the octets between the values; all of them are looked at, with no early exit in a scan.
+#![tactic(auto)]
+
 ghost use Rattle.std.specs.Prelude.{◌≤◌, ◌<◌, ◌≡◌, true, cond, [], ◌∷◌, length, eqb};
 ghost use Rattle.meaning.specs.Table.{entry_count, memory_length, row_at, room_at};
 ghost use Rattle.meaning.specs.Block.{permits};

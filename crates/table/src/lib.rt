@@ -1,6 +1,8 @@
 // The table of parameters: the 19 rows in table order (RULES 3.10), the place of a name, what a row permits, and what a profile
 // makes of it.
 // Every answer is that of a definition of `meaning`.
+#![tactic(auto)]
+
 ghost use Rattle.std.specs.Prelude.{◌+◌, ◌≤◌, ◌≡◌};
 ghost use Rattle.meaning.specs.Table.{memory_length, row, row_at, room_at, place, by_controller, by_port};
 ghost use Rattle.meaning.specs.Block.{permits};

@@ -1,5 +1,7 @@
 // What a reply will hold, counted before any of it is written: whether names are asked, and for each kind of record how
 // many there are and their octets. The operations act on the working copy; the numbers are exact.
+#![tactic(auto)]
+
 ghost use Rattle.std.specs.Prelude.{◌≤◌, ◌<◌, ◌≡◌, true, length};
 ghost use Rattle.meaning.specs.Table.{memory_length, entry_count};
 ghost use Rattle.meaning.specs.Wire.{message_most, reply_most};

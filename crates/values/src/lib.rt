@@ -1,5 +1,7 @@
 // Value rules: whether a number, a base time, a control list, a cycle keep theirs, and whether intervals fit a cycle.
 // Each function is asked of the lengths that the table permits, and every answer is that of a definition of `meaning`.
+#![tactic(auto)]
+
 ghost use Rattle.std.specs.Prelude.{◌/◌, ◌≤◌, ◌<◌, ◌≡◌, true, ◌&&◌, ◌||◌, length, eqb, leb};
 ghost use Rattle.meaning.specs.Block.{as_number, time_ok, interval, entry_ok, entries_of, each_ok, list_ok, intervals, ratio_ok, cycle};
 

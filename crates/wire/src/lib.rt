@@ -1,5 +1,6 @@
 // What stands on the wire as a number, by name, and how much of each thing there may be. The definitions' own names for them
 // are in `Wire` of `meaning`; the contracts of the code that uses these hold the two together.
+#![tactic(auto)]
 
 // ---- profiles
 

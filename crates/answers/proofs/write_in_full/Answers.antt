@@ -5,7 +5,6 @@ use mathlib.Core.Path.{sym, ap, ◌∙◌}
 use mathlib.Core.List.{List}
 use lib.ListN.{length}
 use lib.Seq.{length-take-le}
-use borrow.Author.Rules.{rules}
 use Rattle.meaning.specs.Octets.{splice}
 use Rattle.answers.proofs.Answered.{number_short, full_answer_is}
 use Rattle.answers.proofs.write_in_full.Goals as goal
@@ -17,8 +16,7 @@ slice_bounds-write_full_line-end c =
 
 pub write_full_line-requires : goal.write_full_line-requires
 write_full_line-requires c =
-    let w = c.written-n in
-    (
+    let w = c.written-n in (
       omega (arith, c.number.ensures, number_short c.args.outcome),
       omega (arith, c.position.ensures, c.requires.1),
       omega (arith, sym (length-take-le w.result c.args.room.now (omega (arith, w.ensures, c.requires.0))), w.ensures, c.requires.0, c.requires.2),

@@ -5,7 +5,6 @@ use mathlib.Core.Path.{sym, ap, ◌∙◌}
 use mathlib.Core.List.{List}
 use lib.ListN.{length}
 use lib.Seq.{length-take-le}
-use borrow.Author.Rules.{rules}
 use Rattle.meaning.specs.Octets.{splice}
 use Rattle.answers.proofs.Answered.{number_short, answer_is}
 use Rattle.answers.proofs.write_outcome.Goals as goal

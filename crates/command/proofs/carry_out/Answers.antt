@@ -1,9 +1,5 @@
 -- `command::carry_out` meets its contract.
-use Prim.Native.Nat.{ℕ, ◌+◌, ◌≤◌, ◌<◌}
 use mathlib.Core.Path.{refl, sym, ap, ◌∙◌}
-use mathlib.Core.List.{List}
-use lib.ListN.{length}
-use borrow.Author.Rules.{rules}
 use Rattle.meaning.specs.Step.{step, answer}
 use Rattle.operation.specs.Handing.{op_of}
 use Rattle.command.specs.Answers.{told}

@@ -1,6 +1,5 @@
 -- `command::changes` meets its contract.
 use mathlib.Core.Path.{refl}
-use borrow.Author.Rules.{rules}
 use Rattle.command.specs.Answers.{may_change}
 use Rattle.command.proofs.changes.Goals as goal
 

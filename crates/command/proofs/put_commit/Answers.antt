@@ -1,18 +1,16 @@
 -- `command::put_commit` meets its contract.
-use Prim.Native.Nat.{ℕ, ◌-◌}
+use Prim.Native.Nat.{ℕ}
 use native.Mathlib.Omega.{arith}
 use mathlib.Core.Path.{◌≡◌, refl, sym, ap, ◌∙◌}
 use mathlib.Core.Bool.{Bool, true, false, ◌&&◌}
 use mathlib.Core.List.{List}
 use lib.ListN.{length}
 use lib.Dec.{eqb}
-use borrow.Author.Rules.{rules}
 use Rattle.meaning.specs.Octets.{same}
 use Rattle.meaning.specs.Table.{row_at, admin_base_time, admin_control_list_length, admin_control_list, admin_cycle_time}
 use Rattle.meaning.specs.Block.{joined_block, form_and_fit, sums, permits}
 use Rattle.meaning.specs.Memory.{body, four_present}
 use Rattle.meaning.specs.Step.{block, commits}
-use Rattle.meaning.proofs.Tests.{denied, affirmed}
 use Rattle.schedule.specs.Rules.{fit_together}
 use Rattle.schedule.proofs.Blocks.{fit_is}
 use Rattle.memory.proofs.Running.{fills}

@@ -1,13 +1,10 @@
 -- `command::put_value` meets its contract.
 use mathlib.Core.Path.{◌≡◌, refl, sym, ◌∙◌}
 use mathlib.Core.Bool.{true, false}
-use borrow.Author.Rules.{rules}
 use Rattle.meaning.specs.Table.{row_at}
 use Rattle.meaning.specs.Block.{permits}
-use Rattle.meaning.specs.Memory.{store}
 use Rattle.meaning.specs.Profile.{release18}
 use Rattle.meaning.specs.Step.{permitted}
-use Rattle.meaning.proofs.Tests.{denied, affirmed}
 use Rattle.meaning.proofs.Kept.{permits-most}
 use Rattle.command.proofs.Sets.{long_of, permitted-commit, permitted-row, unspared}
 use Rattle.command.proofs.put_value.Goals as goal

@@ -5,7 +5,6 @@ use borrow.Author.Rules.{rules}
 use Rattle.meaning.specs.Table.{place}
 use Rattle.meaning.specs.Memory.{present}
 use Rattle.meaning.specs.Profile.{lists}
-use Rattle.meaning.proofs.Tests.{denied, affirmed}
 use Rattle.command.specs.declared.Answer.TheVariants.{Value, ReadError}
 use Rattle.command.specs.Answers.{told}
 use Rattle.command.proofs.Sets.{lists-place, read_unlisted, read-absent, read-value}

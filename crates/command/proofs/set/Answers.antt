@@ -1,5 +1,4 @@
 -- `command::set` meets its contract.
-use borrow.Author.Rules.{rules}
 use Rattle.command.proofs.Sets.{as_eighteen}
 use Rattle.command.proofs.set.Goals as goal
 

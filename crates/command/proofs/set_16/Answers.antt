@@ -4,11 +4,9 @@ use mathlib.Core.Path.{◌≡◌, sym, ◌∙◌}
 use mathlib.Core.Logic.{◌≢◌}
 use mathlib.Core.Bool.{true, false}
 use lib.ListN.{length}
-use borrow.Author.Rules.{rules}
 use Rattle.meaning.specs.Octets.{part}
 use Rattle.meaning.specs.Table.{place}
 use Rattle.meaning.specs.Profile.{release16, lists, spared, sendable}
-use Rattle.meaning.proofs.Tests.{denied, affirmed}
 use Rattle.meaning.proofs.Lists.{length_part}
 use Rattle.command.proofs.Sets.{set_unlisted, set_over, set_unfit, as_memory, not_spared, pair_spared, long_unsendable, short-sendable}
 use Rattle.command.proofs.set_16.Goals as goal

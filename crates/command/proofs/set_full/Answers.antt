@@ -1,10 +1,8 @@
 -- `command::set_full` meets its contract.
 use mathlib.Core.Path.{◌≡◌, sym, ap, ◌∙◌}
 use mathlib.Core.Bool.{true, false}
-use borrow.Author.Rules.{rules}
 use Rattle.meaning.specs.Table.{row_at, place, by_controller}
 use Rattle.meaning.specs.Profile.{release18, lists}
-use Rattle.meaning.proofs.Tests.{denied, affirmed}
 use Rattle.octets.proofs.Splices.{part_is}
 use Rattle.table.proofs.Rows.{owner_is}
 use Rattle.command.proofs.Sets.{lists-place, set_unlisted, set_foreign, set-refused, set-done, any_sendable}

@@ -1,6 +1,5 @@
 -- `command::subscribe` meets its contract.
 use mathlib.Core.Path.{sym, ◌∙◌}
-use borrow.Author.Rules.{rules}
 use Rattle.command.proofs.Sets.{lists-place, subscribe-listed, subscribe_unlisted}
 use Rattle.command.proofs.subscribe.Goals as goal
 

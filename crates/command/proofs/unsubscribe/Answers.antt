@@ -1,6 +1,5 @@
 -- `command::unsubscribe` meets its contract.
 use mathlib.Core.Path.{sym, ◌∙◌}
-use borrow.Author.Rules.{rules}
 use Rattle.command.proofs.Sets.{lists-place, unsubscribe-listed, unsubscribe_unlisted}
 use Rattle.command.proofs.unsubscribe.Goals as goal
 

@@ -1,14 +1,8 @@
 -- `delay::from_octets` meets its contract.
-use Prim.Native.Nat.{ℕ, ◌+◌, ◌-◌, ◌*◌, ◌^◌, ◌≤◌, ◌<◌}
-use native.Mathlib.Omega.{arith}
+use Prim.Native.Nat.{◌≤◌}
 use mathlib.Core.Path.{◌≡◌}
-use mathlib.Core.List.{List}
-use lib.ListN.{length, get_or, drop}
-use borrow.Author.Rules.{rules}
-use borrow.Author.Tests.{ne_eqb, eq-eqb}
+use lib.ListN.{length, drop}
 use Rattle.meaning.specs.Delay.{low_number}
-use Rattle.delay.specs.Stored.{stored_in}
-use Rattle.delay.proofs.Spelt.{nothing_read, one_more-read, read_fits}
 use Rattle.delay.proofs.from_octets.Given as goal
 
 abbrev pub invariant-loop-i : goal.invariant-loop-i

@@ -2,12 +2,10 @@
 use mathlib.Core.Path.{◌≡◌, refl, sym, ◌∙◌}
 use mathlib.Core.Bool.{true}
 use mathlib.Core.List.{[], ◌∷◌}
-use borrow.Author.Rules.{rules}
 use Rattle.meaning.specs.Memory.{waiting}
 use Rattle.meaning.specs.Calls.{when_acknowledged}
 use Rattle.meaning.proofs.Kept.{idled}
 use Rattle.notification.specs.Moments.{moment_of}
-use Rattle.meaning.proofs.Tests.{denied, affirmed}
 use Rattle.command.proofs.Sets.{long_of}
 use Rattle.endpoint.specs.Outcomes.{number_of, length_of, position_of}
 use Rattle.endpoint.specs.declared.Outcome.TheVariants.{Idle, ReplyDoesNotFit}

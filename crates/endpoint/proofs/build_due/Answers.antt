@@ -3,7 +3,6 @@ use native.Mathlib.Nat.{zero-add}
 use native.Mathlib.Omega.{arith}
 use mathlib.Core.Path.{◌≡◌, refl, sym, ◌∙◌}
 use mathlib.Core.Bool.{false}
-use borrow.Author.Rules.{rules}
 use Rattle.meaning.specs.Table.{entry_count}
 use Rattle.meaning.specs.Memory.{set_timer, waiting}
 use Rattle.meaning.specs.Calls.{notification, when_sent, turned}

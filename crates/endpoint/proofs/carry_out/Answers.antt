@@ -4,12 +4,10 @@ use mathlib.Core.Path.{◌≡◌, refl, sym, ap, ap₂, ◌∙◌}
 use mathlib.Core.Bool.{Bool, false}
 use mathlib.Core.List.{List}
 use lib.ListN.{length}
-use borrow.Author.Rules.{rules}
 use Rattle.meaning.specs.Operation.{Op, parse, or_none}
 use Rattle.meaning.specs.Step.{after, answers}
 use Rattle.meaning.specs.Reply.{complete}
 use Rattle.meaning.specs.Calls.{records, carried_out, fits}
-use Rattle.meaning.proofs.Tests.{denied, affirmed}
 use Rattle.meaning.proofs.Kept.{after-sound}
 use Rattle.command.proofs.Sets.{long_of}
 use Rattle.command.proofs.Unchanged.{after_unchanged}

@@ -3,9 +3,7 @@ use native.Mathlib.Omega.{arith}
 use mathlib.Core.Path.{◌≡◌, refl, sym, ◌∙◌}
 use mathlib.Core.Bool.{true}
 use mathlib.Core.List.{[]}
-use borrow.Author.Rules.{rules}
 use Rattle.meaning.specs.FormB.{sound_form_b}
-use Rattle.meaning.proofs.Tests.{denied, affirmed}
 use Rattle.meaning.proofs.Profiles.{in_sound}
 use Rattle.meaning.proofs.Sendings.{take_value, gives}
 use Rattle.meaning.proofs.Formed.{gives_lent, asks_form, room_of}

@@ -4,8 +4,6 @@ use mathlib.Core.Path.{◌≡◌, refl, sym, ap, ◌∙◌}
 use mathlib.Core.Logic.{◌⊎◌}
 use mathlib.Core.List.{[], ◌∷◌}
 use lib.ListN.{length-set}
-use borrow.Author.Rules.{rules}
-use Rattle.meaning.proofs.Tests.{denied, affirmed}
 use Rattle.meaning.proofs.Contents.{fresh_spelt}
 use Rattle.meaning.proofs.Formed.{profile_opened, profile_none, make_fresh_unformed, make_fresh_unknown, make_fresh_forms}
 use Rattle.endpoint.specs.Outcomes.{number_of, length_of, position_of}

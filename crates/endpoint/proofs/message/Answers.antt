@@ -2,9 +2,7 @@
 use native.Mathlib.Omega.{arith}
 use mathlib.Core.Path.{◌≡◌, refl, sym, ◌∙◌}
 use mathlib.Core.Bool.{true}
-use borrow.Author.Rules.{rules}
 use Rattle.meaning.specs.FormB.{sound_form_b}
-use Rattle.meaning.proofs.Tests.{denied, affirmed}
 use Rattle.meaning.proofs.Sendings.{take_message, gives}
 use Rattle.meaning.proofs.Formed.{gives_lent, asks_form, room_of}
 use Rattle.endpoint.proofs.Lent.{form-long, rest_in, gives_formed, gives_unsound}

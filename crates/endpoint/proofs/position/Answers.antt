@@ -1,6 +1,5 @@
 -- `endpoint::position` meets its contract.
 use mathlib.Core.Path.{refl, sym}
-use borrow.Author.Rules.{rules}
 use Rattle.endpoint.specs.Outcomes.{position_of}
 use Rattle.endpoint.proofs.Exits.{nowhere}
 use Rattle.endpoint.proofs.position.Goals as goal

@@ -4,7 +4,6 @@ use native.Mathlib.Omega.{arith}
 use mathlib.Core.Path.{◌≡◌, refl, sym, ap, ◌∙◌}
 use mathlib.Core.Logic.{inl, inr}
 use lib.ListN.{length, take, drop, length-take}
-use borrow.Author.Rules.{rules}
 use Rattle.meaning.specs.Octets.{octet, at16}
 use Rattle.meaning.specs.Calls.{number_only, operations, located}
 use Rattle.meaning.proofs.Profiles.{in_sound}

@@ -4,10 +4,8 @@ use native.Mathlib.Omega.{arith}
 use mathlib.Core.Path.{◌≡◌, refl, sym, ◌∙◌}
 use mathlib.Core.Bool.{true}
 use mathlib.Core.List.{[]}
-use borrow.Author.Rules.{rules}
 use Rattle.meaning.specs.Memory.{waiting, expiries, set_timer}
 use Rattle.meaning.specs.Calls.{when_given_up}
-use Rattle.meaning.proofs.Tests.{denied, affirmed}
 use Rattle.meaning.proofs.Sound.{opened}
 use Rattle.meaning.proofs.Numbers.{expiry_8}
 use Rattle.meaning.proofs.Kept.{idled}

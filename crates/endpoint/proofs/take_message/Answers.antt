@@ -1,7 +1,6 @@
 -- `endpoint::take_message` meets its contract.
 use native.Mathlib.Omega.{arith}
 use mathlib.Core.Path.{refl}
-use borrow.Author.Rules.{rules}
 use Rattle.meaning.proofs.Profiles.{in_sound}
 use Rattle.meaning.proofs.Numbers.{Taken, message_2, message_3, message_4}
 use Rattle.endpoint.specs.Outcomes.{number_of, length_of, position_of}

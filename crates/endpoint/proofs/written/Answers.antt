@@ -1,6 +1,5 @@
 -- `endpoint::written` meets its contract.
 use mathlib.Core.Path.{refl, sym}
-use borrow.Author.Rules.{rules}
 use Rattle.endpoint.specs.Outcomes.{length_of}
 use Rattle.endpoint.proofs.Exits.{nothing_written}
 use Rattle.endpoint.proofs.written.Goals as goal

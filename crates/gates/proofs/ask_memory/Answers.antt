@@ -8,7 +8,6 @@ use mir.Facts.{to_z-of_z}
 use Rattle.meaning.specs.Table.{commit}
 use Rattle.meaning.specs.Memory.{present}
 use Rattle.meaning.specs.Gates.{gates_of}
-use Rattle.meaning.proofs.Tests.{denied, affirmed}
 use Rattle.meaning.proofs.Sound.{opened}
 use Rattle.meaning.proofs.Driven.{running-form}
 use Rattle.gates.specs.Answers.{refusal_number, answer_of, running}

@@ -1,11 +1,10 @@
 -- `gates::entry_at` meets its contract: what the entries from here on answer is what all of them answer.
-use Prim.Native.Nat.{ℕ, suc, ◌+◌, ◌-◌, ◌*◌, ◌/◌, ◌%◌, ◌≤◌, ◌<◌}
+use Prim.Native.Nat.{ℕ, suc, ◌+◌, ◌-◌, ◌*◌, ◌/◌, ◌%◌, ◌<◌}
 use native.Mathlib.Nat.{sub-zero}
 use native.Mathlib.Omega.{arith}
 use mathlib.Core.Path.{◌≡◌, sym, ◌∙◌}
-use lib.ListN.{length, drop}
+use lib.ListN.{length}
 use borrow.Author.Rules.{rules}
-use Rattle.meaning.specs.Gates.{entry_at}
 use Rattle.gates.specs.Answers.{answer_of}
 use Rattle.gates.proofs.Entries.{at_last, not_ended, ended}
 use Rattle.gates.proofs.entry_at.Goals as goal

@@ -5,9 +5,7 @@ use mathlib.Core.Path.{◌≡◌, sym, ap, ◌∙◌}
 use mathlib.Core.Bool.{true}
 use mathlib.Core.List.{List}
 use mir.Facts.{to_z-of_z}
-use borrow.Author.Rules.{rules}
 use Rattle.meaning.specs.FormB.{profile_of, behind, sound_form_b}
-use Rattle.meaning.proofs.Tests.{denied, affirmed}
 use Rattle.meaning.proofs.Profiles.{in_sound}
 use Rattle.meaning.proofs.Formed.{form_opened, sound-form, sound_opened, gates_1, gates-sound}
 use Rattle.octets.proofs.Splices.{rest_is_lem}

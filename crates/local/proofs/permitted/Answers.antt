@@ -1,10 +1,8 @@
 -- `local::permitted` meets its contract.
 use native.Mathlib.Omega.{arith}
 use mathlib.Core.Path.{◌≡◌, sym, ap, ◌∙◌}
-use borrow.Author.Rules.{rules}
 use Rattle.meaning.specs.Table.{row_at, by_port}
 use Rattle.meaning.specs.Block.{permits}
-use Rattle.meaning.proofs.Tests.{denied, affirmed}
 use Rattle.table.proofs.Rows.{owner_is}
 use Rattle.local.proofs.Values.{no_entry, foreign, made_absent, asked}
 use Rattle.local.proofs.permitted.Goals as goal

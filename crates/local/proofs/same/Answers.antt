@@ -1,9 +1,8 @@
 -- `local::same` meets its contract.
-use Prim.Native.Nat.{◌-◌, ◌≤◌}
+use Prim.Native.Nat.{◌≤◌}
 use native.Mathlib.Omega.{arith}
-use mathlib.Core.Path.{◌≡◌, refl, sym, ◌∙◌}
-use lib.ListN.{length, drop, drop_of_length-le}
-use borrow.Author.Rules.{rules}
+use mathlib.Core.Path.{refl, sym, ◌∙◌}
+use lib.ListN.{length, drop_of_length-le}
 use Rattle.meaning.specs.Octets.{same}
 use Rattle.local.proofs.Values.{same_lengths, same_next, same_not}
 use Rattle.local.proofs.same.Goals as goal

@@ -2,7 +2,6 @@
 use Prim.Native.Nat.{ℕ}
 use mathlib.Core.Path.{ap, ◌∙◌}
 use mathlib.Core.List.{List}
-use borrow.Author.Rules.{rules}
 use Rattle.meaning.specs.Octets.{same}
 use Rattle.local.proofs.Values.{stored_is}
 use Rattle.local.proofs.store.Goals as goal

@@ -2,7 +2,6 @@
 use native.Mathlib.Nat.{sub-zero}
 use mathlib.Core.Path.{sym, ap, ◌∙◌}
 use lib.Seq.{take_all}
-use borrow.Author.Rules.{rules}
 use Rattle.meaning.specs.Memory.{size, body}
 use Rattle.memory.proofs.body.Goals as goal
 

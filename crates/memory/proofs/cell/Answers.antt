@@ -3,7 +3,6 @@ use Prim.Native.Nat.{◌*◌}
 use native.Mathlib.Omega.{arith}
 use mathlib.Core.Path.{ap, ◌∙◌}
 use lib.ListN.{length}
-use borrow.Author.Rules.{rules}
 use Rattle.meaning.specs.Memory.{cell}
 use Rattle.meaning.proofs.Lists.{length_part}
 use Rattle.octets.proofs.Splices.{part_is}

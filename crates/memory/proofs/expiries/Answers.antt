@@ -1,7 +1,6 @@
 -- `memory::expiries` meets its contract.
 use native.Mathlib.Omega.{arith}
 use mathlib.Core.Path.{sym}
-use borrow.Author.Rules.{rules}
 use Rattle.meaning.specs.Memory.{timer, expiries}
 use Rattle.meaning.proofs.Lists.{part-octet}
 use Rattle.memory.proofs.expiries.Goals as goal

@@ -1,7 +1,6 @@
 -- `memory::flags` meets its contract.
 use native.Mathlib.Omega.{arith}
 use mathlib.Core.Path.{refl}
-use borrow.Author.Rules.{rules}
 use Rattle.memory.proofs.flags.Goals as goal
 
 pub returns : goal.returns

@@ -1,5 +1,4 @@
 -- `memory::flags_with` meets its contract.
-use borrow.Author.Rules.{rules}
 use native.Mathlib.Omega.{arith}
 use Rattle.memory.proofs.Masks.{flags_with}
 use Rattle.memory.proofs.flags_with.Goals as goal

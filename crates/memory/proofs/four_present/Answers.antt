@@ -1,6 +1,5 @@
 -- `memory::four_present` meets its contract.
 use mathlib.Core.Bool.{and-true}
-use borrow.Author.Rules.{rules}
 use Rattle.meaning.specs.Octets.{every}
 use Rattle.meaning.specs.Memory.{four_present}
 use Rattle.memory.proofs.four_present.Goals as goal

@@ -1,6 +1,5 @@
 -- `memory::is_pending` meets its contract.
 use mathlib.Core.Path.{refl}
-use borrow.Author.Rules.{rules}
 use Rattle.meaning.specs.Memory.{is_pending}
 use Rattle.memory.proofs.is_pending.Goals as goal
 

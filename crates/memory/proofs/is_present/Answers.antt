@@ -1,6 +1,5 @@
 -- `memory::is_present` meets its contract.
 use mathlib.Core.Path.{refl}
-use borrow.Author.Rules.{rules}
 use Rattle.meaning.specs.Memory.{is_present}
 use Rattle.memory.proofs.is_present.Goals as goal
 

@@ -1,6 +1,5 @@
 -- `memory::is_subscribed` meets its contract.
 use mathlib.Core.Path.{refl}
-use borrow.Author.Rules.{rules}
 use Rattle.meaning.specs.Memory.{is_subscribed}
 use Rattle.memory.proofs.is_subscribed.Goals as goal
 

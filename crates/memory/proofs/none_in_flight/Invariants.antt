@@ -1,15 +1,9 @@
 -- `memory::none_in_flight` meets its contract.
-use Prim.Native.Nat.{ℕ, ◌-◌, ◌≤◌}
-use native.Mathlib.Omega.{arith}
-use mathlib.Core.Path.{◌≡◌, refl, ap, ap₂, ◌∙◌}
-use mathlib.Core.Bool.{◌&&◌, not}
-use lib.Dec.{ltb}
-use borrow.Author.Rules.{rules}
+use Prim.Native.Nat.{◌-◌, ◌≤◌}
+use mathlib.Core.Path.{◌≡◌}
+use mathlib.Core.Bool.{not}
 use Rattle.meaning.specs.Octets.{below}
 use Rattle.meaning.specs.Memory.{in_flight}
-use Rattle.meaning.specs.Moves.{none_in_flight}
-use Rattle.meaning.proofs.Tests.{below_more}
-use Rattle.memory.proofs.Masks.{none_high}
 use Rattle.memory.proofs.none_in_flight.Given as goal
 
 abbrev pub invariant-loop-k : goal.invariant-loop-k

@@ -1,6 +1,5 @@
 -- `memory::pending` meets its contract.
 use mathlib.Core.Path.{ap, ◌∙◌}
-use borrow.Author.Rules.{rules}
 use Rattle.meaning.specs.Memory.{pending, is_pending}
 use Rattle.memory.proofs.pending.Goals as goal
 

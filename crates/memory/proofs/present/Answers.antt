@@ -1,6 +1,5 @@
 -- `memory::present` meets its contract.
 use mathlib.Core.Path.{ap, ◌∙◌}
-use borrow.Author.Rules.{rules}
 use Rattle.meaning.specs.Memory.{present, is_present}
 use Rattle.memory.proofs.present.Goals as goal
 

@@ -3,7 +3,6 @@ use Prim.Native.Nat.{◌+◌, ◌*◌}
 use native.Mathlib.Omega.{arith}
 use mathlib.Core.Path.{◌∙◌}
 use borrow.Rule.Slice.PartMut.{mid_len}
-use borrow.Author.Rules.{rules}
 use Rattle.meaning.specs.Table.{row_at}
 use Rattle.meaning.specs.Memory.{cell_of}
 use Rattle.meaning.proofs.Places.{name-small}

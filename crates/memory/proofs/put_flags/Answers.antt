@@ -1,7 +1,6 @@
 -- `memory::put_flags` meets its contract.
 use Prim.Native.Nat.{◌+◌, ◌*◌}
 use native.Mathlib.Omega.{arith}
-use borrow.Author.Rules.{rules}
 use Rattle.octets.proofs.Splices.{one_store}
 use Rattle.memory.proofs.put_flags.Goals as goal
 

@@ -2,7 +2,6 @@
 use Prim.Native.Nat.{◌+◌}
 use native.Mathlib.Omega.{arith}
 use borrow.Rule.Slice.PartMut.{mid_len}
-use borrow.Author.Rules.{rules}
 use Rattle.meaning.specs.Table.{row_at}
 use Rattle.table.proofs.Rows.{most_is}
 use Rattle.memory.proofs.Cells.{room_back}

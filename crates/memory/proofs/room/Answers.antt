@@ -2,7 +2,6 @@
 use native.Mathlib.Omega.{arith}
 use mathlib.Core.Path.{ap, ◌∙◌}
 use lib.ListN.{length}
-use borrow.Author.Rules.{rules}
 use Rattle.meaning.specs.Table.{row_at}
 use Rattle.meaning.specs.Memory.{room}
 use Rattle.meaning.proofs.Lists.{length_part}

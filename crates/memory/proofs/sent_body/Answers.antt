@@ -2,7 +2,6 @@
 use mathlib.Core.Path.{sym, ap₂, ◌∙◌}
 use lib.ListN.{length, drop, drop_of_length-le}
 use lib.Seq.{drop-length}
-use borrow.Author.Rules.{rules}
 use Rattle.meaning.specs.Profile.{on_wire}
 use Rattle.octets.proofs.Splices.{rest_is_lem}
 use Rattle.memory.proofs.sent_body.Goals as goal

@@ -1,6 +1,5 @@
 -- `memory::set_timer` meets its contract.
 use native.Mathlib.Omega.{arith}
-use borrow.Author.Rules.{rules}
 use Rattle.meaning.specs.Memory.{set_timer}
 use Rattle.octets.proofs.Splices.{two_stores}
 use Rattle.memory.proofs.set_timer.Goals as goal

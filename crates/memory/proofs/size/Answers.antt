@@ -1,5 +1,4 @@
 -- `memory::size` meets its contract.
-use borrow.Author.Rules.{rules}
 use Rattle.meaning.specs.Memory.{size}
 use Rattle.memory.proofs.size.Goals as goal
 

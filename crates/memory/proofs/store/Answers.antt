@@ -3,7 +3,6 @@ use Prim.Native.Nat.{ℕ}
 use mathlib.Core.Path.{◌≡◌, ◌∙◌}
 use mathlib.Core.Bool.{true, false, ◌||◌, or-false}
 use mathlib.Core.List.{List}
-use borrow.Author.Rules.{rules}
 use Rattle.meaning.specs.Memory.{subscribed, pending, in_flight, flags, put, store}
 use Rattle.memory.proofs.store.Goals as goal
 

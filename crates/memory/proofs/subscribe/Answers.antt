@@ -1,6 +1,5 @@
 -- `memory::subscribe` meets its contract.
 use mathlib.Core.Bool.{true}
-use borrow.Author.Rules.{rules}
 use Rattle.meaning.specs.Memory.{pending, in_flight}
 use Rattle.memory.proofs.Masks.{subscribe-flags, marks_set}
 use Rattle.memory.proofs.subscribe.Goals as goal

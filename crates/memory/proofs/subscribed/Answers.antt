@@ -1,6 +1,5 @@
 -- `memory::subscribed` meets its contract.
 use mathlib.Core.Path.{ap, ◌∙◌}
-use borrow.Author.Rules.{rules}
 use Rattle.meaning.specs.Memory.{subscribed, is_subscribed}
 use Rattle.memory.proofs.subscribed.Goals as goal
 

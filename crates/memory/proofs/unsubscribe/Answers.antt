@@ -1,6 +1,5 @@
 -- `memory::unsubscribe` meets its contract.
 use mathlib.Core.Bool.{false}
-use borrow.Author.Rules.{rules}
 use Rattle.memory.proofs.Masks.{unsubscribe-flags, marks_set}
 use Rattle.memory.proofs.unsubscribe.Goals as goal
 

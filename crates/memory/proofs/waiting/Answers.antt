@@ -1,6 +1,5 @@
 -- `memory::waiting` meets its contract.
 use native.Mathlib.Omega.{arith}
-use borrow.Author.Rules.{rules}
 use Rattle.meaning.specs.Memory.{timer, waiting}
 use Rattle.meaning.proofs.Lists.{part-octet}
 use Rattle.memory.proofs.waiting.Goals as goal

@@ -1,6 +1,5 @@
 -- `notification::begin_wait` meets its contract.
 use mathlib.Core.Path.{ap, ◌∙◌}
-use borrow.Author.Rules.{rules}
 use Rattle.meaning.specs.Table.{entry_count}
 use Rattle.meaning.specs.Calls.{when_sent, turned}
 use Rattle.notification.specs.Moments.{moment_of}

@@ -1,15 +1,8 @@
 -- `notification::count` meets its contract.
 use Prim.Native.Nat.{ℕ, ◌-◌, ◌≤◌}
-use native.Mathlib.Omega.{arith}
-use mathlib.Core.Path.{◌≡◌, refl, ap, ◌∙◌}
-use borrow.Author.Rules.{rules}
-use Rattle.meaning.specs.Octets.{flat}
-use Rattle.meaning.specs.Profile.{release18}
-use Rattle.meaning.specs.Reply.{gathered}
+use mathlib.Core.Path.{◌≡◌}
 use Rattle.meaning.specs.Calls.{reports}
-use Rattle.notification.specs.declared.Due.{Due}
-use Rattle.notification.specs.Reports.{part_of, due_at, more, due_of}
-use Rattle.notification.proofs.Reported.{due_next, few_before}
+use Rattle.notification.specs.Reports.{due_of}
 use Rattle.notification.proofs.count.Given as goal
 
 abbrev pub invariant-loop-k : goal.invariant-loop-k

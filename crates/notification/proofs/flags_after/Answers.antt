@@ -1,5 +1,4 @@
 -- `notification::flags_after` meets its contract.
-use borrow.Author.Rules.{rules}
 use Rattle.notification.specs.Moments.{moment_of}
 use Rattle.notification.proofs.Turning.{sent, acknowledged, given_up_kept, given_up_turned}
 use Rattle.notification.proofs.flags_after.Goals as goal

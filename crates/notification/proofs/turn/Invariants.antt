@@ -1,13 +1,9 @@
 -- `notification::turn` meets its contract.
-use Prim.Native.Nat.{ℕ, ◌-◌, ◌≤◌}
-use native.Mathlib.Numerals.{add-one}
-use native.Mathlib.Omega.{arith}
-use mathlib.Core.Path.{◌≡◌, refl, ap, ◌∙◌}
+use Prim.Native.Nat.{◌-◌, ◌≤◌}
+use mathlib.Core.Path.{◌≡◌}
 use lib.ListN.{length}
-use borrow.Author.Rules.{rules}
 use Rattle.meaning.specs.Calls.{turned}
 use Rattle.notification.specs.Moments.{moment_of}
-use Rattle.notification.proofs.Turning.{entry_turned}
 use Rattle.notification.proofs.turn.Given as goal
 
 abbrev pub invariant-loop-k : goal.invariant-loop-k

@@ -1,9 +1,7 @@
 -- `notification::with_entry` meets its contract.
 use mathlib.Core.Path.{◌≡◌, sym, ◌∙◌}
 use mathlib.Core.Bool.{true}
-use borrow.Author.Rules.{rules}
 use Rattle.meaning.specs.Memory.{pending}
-use Rattle.meaning.proofs.Tests.{denied, affirmed}
 use Rattle.notification.proofs.Reported.{more_none, more-absent, more-value}
 use Rattle.notification.proofs.with_entry.Goals as goal
 use Rattle.notification.proofs.with_entry.Goals.{Else-not-pending}

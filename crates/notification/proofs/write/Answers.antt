@@ -3,7 +3,6 @@ use Prim.Native.Nat.{◌+◌, ◌*◌, ◌≤◌, ◌<◌}
 use native.Mathlib.Omega.{arith}
 use mathlib.Core.Bool.{true, false}
 use mathlib.Core.List.{[], ◌∷◌, ◌++◌}
-use borrow.Author.Rules.{rules}
 use Rattle.meaning.specs.Octets.{be16}
 use Rattle.meaning.specs.Table.{entry_count}
 use Rattle.meaning.specs.Calls.{reports, notification}

@@ -5,12 +5,10 @@ use mathlib.Core.Path.{◌≡◌, sym, ap, ◌∙◌}
 use mathlib.Core.Bool.{false, true}
 use mathlib.Core.List.{List}
 use lib.ListN.{length}
-use borrow.Author.Rules.{rules}
 use Rattle.meaning.specs.Table.{row_at}
 use Rattle.meaning.specs.Memory.{body, pending}
 use Rattle.meaning.specs.Profile.{cause_absent}
 use Rattle.meaning.specs.Reply.{held_octets, failed_octets}
-use Rattle.meaning.proofs.Tests.{denied, affirmed}
 use Rattle.meaning.proofs.Answered.{body-length}
 use Rattle.meaning.proofs.Places.{most-small, name-small}
 use Rattle.table.proofs.Rows.{name_is}

@@ -1,11 +1,9 @@
 -- `notification::write_kind` meets its contract.
-use Prim.Native.Nat.{ℕ, ◌-◌, ◌≤◌}
+use Prim.Native.Nat.{ℕ}
 use native.Mathlib.Omega.{arith}
 use mathlib.Core.Path.{◌≡◌, refl, sym, ap, ◌∙◌}
-use lib.ListN.{length}
 use borrow.Author.Rules.{rules}
 use Rattle.meaning.specs.Calls.{reports}
-use Rattle.octets.specs.Writing.{Wrote}
 use Rattle.records.proofs.Pieces.{wrote_none, wrote_this}
 use Rattle.notification.specs.Reports.{part_of}
 use Rattle.notification.proofs.Reported.{part-start, part-within, kind_next}

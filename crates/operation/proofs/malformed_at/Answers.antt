@@ -1,6 +1,5 @@
 -- `operation::malformed_at` meets its contract.
 use mathlib.Core.Path.{refl}
-use borrow.Author.Rules.{rules}
 use Rattle.operation.specs.Handing.{found_at}
 use Rattle.operation.proofs.malformed_at.Goals as goal
 

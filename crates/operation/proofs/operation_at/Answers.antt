@@ -1,7 +1,6 @@
 -- `operation::operation_at` meets its contract.
 use native.Mathlib.Omega.{arith}
 use mathlib.Core.Path.{◌∙◌}
-use borrow.Author.Rules.{rules}
 use Rattle.operation.specs.Handing.{found_at}
 use Rattle.operation.proofs.Found.{past, has_value, capabilities_found, name_cut, read_found, subscribe_found, unsubscribe_found}
 use Rattle.operation.proofs.operation_at.Goals as goal
@@ -26,7 +25,7 @@ pub returns : goal.returns
 returns c =
     let n = c.get16-name in
     elim c.match-code.branch [
-      in-2 w ↦ read_found _ _ _ c.if-list-at.false n.result _ c.if-left-lt3.false n.ensures.0 w.in-2.is w.op-is
+      | in-2 w ↦ read_found _ _ _ c.if-list-at.false n.result _ c.if-left-lt3.false n.ensures.0 w.in-2.is w.op-is
       | in-4 w ↦ subscribe_found _ _ _ c.if-list-at.false n.result _ c.if-left-lt3.false n.ensures.0 w.in-4.is w.op-is
       | in-5 w ↦ unsubscribe_found _ _ _ c.if-list-at.false n.result _ c.if-left-lt3.false n.ensures.0 w.in-5.is w.op-is
     ]

@@ -1,8 +1,6 @@
 -- `operation::valued_at` meets its contract.
 use native.Mathlib.Omega.{arith}
 use mathlib.Core.Path.{sym, ◌∙◌}
-use borrow.Author.Rules.{rules}
-use Rattle.meaning.proofs.Tests.{denied, affirmed}
 use Rattle.operation.specs.Handing.{found_at}
 use Rattle.operation.proofs.Found.{length-short, value-short, set_found, selective_read_found, selective_subscribe_found, selective_unsubscribe_found, delete_entry_found, missing_found, other_found}
 use Rattle.operation.proofs.valued_at.Goals as goal
@@ -36,7 +34,7 @@ returns c =
     let z = c.get16-size in
     let has = sym c.has_code.ensures ∙ c.if-not-has_code.false in
     elim c.match-code.branch [
-      in-3 w ↦ set_found _ _ _ (omega (arith, c.requires.0)) n.result _ z.result _ (omega arith) n.ensures.0 z.ensures.0 (omega (arith, c.if-left-size.false)) has w.in-3.is w.op-is
+      | in-3 w ↦ set_found _ _ _ (omega (arith, c.requires.0)) n.result _ z.result _ (omega arith) n.ensures.0 z.ensures.0 (omega (arith, c.if-left-size.false)) has w.in-3.is w.op-is
       | in-6 w ↦ selective_read_found _ _ _ (omega (arith, c.requires.0)) n.result _ z.result _ (omega arith) n.ensures.0 z.ensures.0 (omega (arith, c.if-left-size.false)) has w.in-6.is w.op-is
       | in-7 w ↦ selective_subscribe_found _ _ _ (omega (arith, c.requires.0)) n.result _ z.result _ (omega arith) n.ensures.0 z.ensures.0 (omega (arith, c.if-left-size.false)) has w.in-7.is w.op-is
       | in-8 w ↦ selective_unsubscribe_found _ _ _ (omega (arith, c.requires.0)) n.result _ z.result _ (omega arith) n.ensures.0 z.ensures.0 (omega (arith, c.if-left-size.false)) has w.in-8.is w.op-is

@@ -1,10 +1,7 @@
 -- `operation::whole` meets its contract. The octets from the place on are whole where the list is, and break where it does.
-use Prim.Native.Nat.{◌≤◌, ◌-◌}
 use native.Mathlib.Omega.{arith}
-use mathlib.Core.Path.{◌≡◌, refl, sym, ap, ◌∙◌, subst}
-use lib.ListN.{length, drop}
-use borrow.Author.Rules.{rules}
-use Rattle.meaning.specs.Operation.{parse, is_some, broken}
+use mathlib.Core.Path.{refl, sym, ap, ◌∙◌, subst}
+use Rattle.meaning.specs.Operation.{is_some}
 use Rattle.operation.proofs.Turns.{HandsOut, turn_some, turn-malformed, turn_end, turn-broken, turn_breaks, is_whole_lem, breaks_at}
 use Rattle.operation.proofs.Hands.{hands_out}
 use Rattle.operation.proofs.whole.Goals as goal

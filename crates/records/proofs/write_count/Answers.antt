@@ -1,5 +1,4 @@
 -- `records::write_count` meets its contract.
-use borrow.Author.Rules.{rules}
 use Rattle.records.proofs.write_count.Goals as goal
 
 pub returns : goal.returns

@@ -1,7 +1,6 @@
 -- `records::write_failed` meets its contract.
 use Prim.Native.Nat.{ℕ, ◌+◌}
 use mathlib.Core.Path.{sym, ap}
-use borrow.Author.Rules.{rules}
 use Rattle.records.proofs.Lengths.{failed-length}
 use Rattle.records.proofs.Written.{failed-written}
 use Rattle.records.proofs.write_failed.Goals as goal

@@ -1,5 +1,5 @@
 -- `records::write_names` meets its contract. The loop's invariant: the names from the place on are what is left to write.
-use Prim.Native.Nat.{◌+◌, ◌-◌, ◌≤◌}
+use Prim.Native.Nat.{◌+◌}
 use native.Mathlib.Omega.{arith}
 use mathlib.Core.List.{◌++◌}
 use borrow.Author.Rules.{rules}

@@ -1,6 +1,5 @@
 -- `records::write_octet` meets its contract.
 use mathlib.Core.Path.{refl}
-use borrow.Author.Rules.{rules}
 use Rattle.octets.proofs.Splices.{one_store}
 use Rattle.records.proofs.write_octet.Goals as goal
 

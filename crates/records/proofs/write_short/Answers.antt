@@ -2,7 +2,6 @@
 use native.Mathlib.Omega.{arith}
 use mathlib.Core.Path.{◌∙◌}
 use lib.ListN.{length-set}
-use borrow.Author.Rules.{rules}
 use Rattle.records.proofs.Lengths.{short-length}
 use Rattle.records.proofs.Written.{short-written}
 use Rattle.records.proofs.write_short.Goals as goal

@@ -2,7 +2,6 @@
 use Prim.Native.Nat.{◌+◌}
 use native.Mathlib.Omega.{arith}
 use mathlib.Core.Path.{refl}
-use borrow.Author.Rules.{rules}
 use Rattle.meaning.specs.Octets.{be16}
 use Rattle.octets.proofs.Splices.{then}
 use Rattle.records.proofs.write_value_head.Goals as goal

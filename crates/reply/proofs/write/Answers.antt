@@ -1,10 +1,8 @@
 -- `reply::write` meets its contract.
-use native.Mathlib.Omega.{arith}
 use Prim.Native.Nat.{◌≤◌}
 use mathlib.Core.Path.{◌≡◌, sym, ap, ◌∙◌}
 use mathlib.Core.Bool.{false}
 use lib.ListN.{length}
-use borrow.Author.Rules.{rules}
 use Rattle.meaning.specs.Operation.{parse, or_none}
 use Rattle.meaning.specs.Reply.{Records, complete}
 use Rattle.octets.specs.Filling.{Filled}

@@ -1,11 +1,8 @@
 -- `reply::write_capabilities` meets its contract.
-use Prim.Native.Nat.{◌+◌}
 use native.Mathlib.Omega.{arith}
 use mathlib.Core.List.{◌∷◌, ◌++◌}
-use borrow.Author.Rules.{rules}
 use Rattle.meaning.specs.Octets.{be16}
 use Rattle.meaning.specs.Reply.{element, all_names}
-use Rattle.meaning.proofs.Tests.{denied, affirmed}
 use Rattle.meaning.proofs.Contents.{names-length}
 use Rattle.records.proofs.Pieces.{Left, wrote_none, left_start, left_as, left_fits, first_fits, left_next, left_last}
 use Rattle.reply.proofs.Parts.{names_parts}

@@ -4,9 +4,7 @@ use mathlib.Core.Path.{◌≡◌}
 use mathlib.Core.Bool.{Bool, true}
 use mathlib.Core.List.{List, [], ◌∷◌, ◌++◌}
 use lib.ListN.{length}
-use borrow.Author.Rules.{rules}
 use Rattle.meaning.specs.Octets.{be16}
-use Rattle.meaning.proofs.Tests.{denied, affirmed}
 use Rattle.records.proofs.Pieces.{Left, wrote_none, left_start, left_as, left_fits, first_fits, left_next, left_last}
 use Rattle.reply.specs.Sections.{opening}
 use Rattle.reply.proofs.write_opening.Goals as goal

@@ -1,16 +1,14 @@
 -- `reply::write_prefaces` meets its contract: five prefaces, each where the one before and its records end.
-use Prim.Native.Nat.{ℕ, ◌+◌, ◌^◌, ◌≤◌, ◌<◌}
+use Prim.Native.Nat.{◌+◌, ◌^◌, ◌≤◌, ◌<◌}
 use native.Mathlib.Omega.{arith}
 use mathlib.Core.Path.{◌≡◌, sym, ap, ◌∙◌}
-use mathlib.Core.List.{List}
 use lib.ListN.{length}
 use borrow.Author.Rules.{rules}
 use Rattle.octets.specs.Writing.{Wrote}
 use Rattle.records.proofs.Pieces.{wrote_this}
-use Rattle.tally.specs.declared.Tally.{Tally}
 use Rattle.section.specs.Kinds.{Kind, Values, ReadErrors, Updates, UpdateErrors, LongUpdates}
 use Rattle.section.proofs.Shares.{fits_at}
-use Rattle.reply.specs.Sections.{opening, preface, begins}
+use Rattle.reply.specs.Sections.{preface, begins}
 use Rattle.reply.proofs.Parts.{few_values, few_read_errors, few_updates, few_update_errors, read_small, set-small, long-small}
 use Rattle.reply.proofs.Prefaces.{preface-values, preface-read_errors, preface-updates, preface-update_errors, preface-long_updates, begin₂, begin₃, begin₄, begin₅, prefaces_filled}
 use Rattle.reply.proofs.write_prefaces.Goals as goal
@@ -103,9 +101,9 @@ overflow_add-fifth c =
 
 pub write_second_count-read_errors-requires : goal.write_second_count-read_errors-requires
 write_second_count-read_errors-requires c = (
-      few_read_errors _ _ c.args.t c.requires.1.1,
-      omega (arith, within (goal.at.write_second_count-read_errors-requires c).Start ReadErrors, second_at (goal.at.write_second_count-read_errors-requires c).After-write_opening-values, c.write_opening-values.auto.out, ap length (preface-read_errors c.args.t _ c.any_read-reads.ensures)),
-    )
+  few_read_errors _ _ c.args.t c.requires.1.1,
+  omega (arith, within (goal.at.write_second_count-read_errors-requires c).Start ReadErrors, second_at (goal.at.write_second_count-read_errors-requires c).After-write_opening-values, c.write_opening-values.auto.out, ap length (preface-read_errors c.args.t _ c.any_read-reads.ensures)),
+)
 
 pub write_opening-updates-requires : goal.write_opening-updates-requires
 write_opening-updates-requires c =
@@ -118,15 +116,15 @@ write_opening-updates-requires c =
 
 pub write_second_count-update_errors-requires : goal.write_second_count-update_errors-requires
 write_second_count-update_errors-requires c = (
-      few_update_errors _ _ c.args.t c.requires.1.1,
-      omega (arith, within (goal.at.write_second_count-update_errors-requires c).Start UpdateErrors, fourth-at (goal.at.write_second_count-update_errors-requires c).After-write_opening-updates (wrote₁ (goal.at.write_second_count-update_errors-requires c).After-write_opening-values) (wrote₂ (goal.at.write_second_count-update_errors-requires c).After-write_second_count-read_errors), c.write_opening-updates.auto.out ∙ (c.write_second_count-read_errors.auto.out ∙ c.write_opening-values.auto.out), ap length (preface-update_errors c.args.t _ c.any_set-sets.ensures)),
-    )
+  few_update_errors _ _ c.args.t c.requires.1.1,
+  omega (arith, within (goal.at.write_second_count-update_errors-requires c).Start UpdateErrors, fourth-at (goal.at.write_second_count-update_errors-requires c).After-write_opening-updates (wrote₁ (goal.at.write_second_count-update_errors-requires c).After-write_opening-values) (wrote₂ (goal.at.write_second_count-update_errors-requires c).After-write_second_count-read_errors), c.write_opening-updates.auto.out ∙ (c.write_second_count-read_errors.auto.out ∙ c.write_opening-values.auto.out), ap length (preface-update_errors c.args.t _ c.any_set-sets.ensures)),
+)
 
 pub write_longs-long_updates-requires : goal.write_longs-long_updates-requires
 write_longs-long_updates-requires c = (
-      long-small _ _ c.args.t c.requires.1.1,
-      omega (arith, within (goal.at.write_longs-long_updates-requires c).Start LongUpdates, fifth-at (goal.at.write_longs-long_updates-requires c).After-write_second_count-update_errors (wrote₁ (goal.at.write_longs-long_updates-requires c).After-write_opening-values) (wrote₂ (goal.at.write_longs-long_updates-requires c).After-write_second_count-read_errors) (wrote₃ (goal.at.write_longs-long_updates-requires c).After-write_opening-updates), c.write_second_count-update_errors.auto.out ∙ (c.write_opening-updates.auto.out ∙ (c.write_second_count-read_errors.auto.out ∙ c.write_opening-values.auto.out)), ap length (preface-long_updates c.args.t)),
-    )
+  long-small _ _ c.args.t c.requires.1.1,
+  omega (arith, within (goal.at.write_longs-long_updates-requires c).Start LongUpdates, fifth-at (goal.at.write_longs-long_updates-requires c).After-write_second_count-update_errors (wrote₁ (goal.at.write_longs-long_updates-requires c).After-write_opening-values) (wrote₂ (goal.at.write_longs-long_updates-requires c).After-write_second_count-read_errors) (wrote₃ (goal.at.write_longs-long_updates-requires c).After-write_opening-updates), c.write_second_count-update_errors.auto.out ∙ (c.write_opening-updates.auto.out ∙ (c.write_second_count-read_errors.auto.out ∙ c.write_opening-values.auto.out)), ap length (preface-long_updates c.args.t)),
+)
 
 pub shape_of-out : goal.shape_of-out
 shape_of-out c = c.write_longs-long_updates.auto.out ∙ (c.write_second_count-update_errors.auto.out ∙ (c.write_opening-updates.auto.out ∙ (c.write_second_count-read_errors.auto.out ∙ c.write_opening-values.auto.out)))

@@ -3,8 +3,6 @@ use native.Mathlib.Omega.{arith}
 use mathlib.Core.Path.{◌≡◌, ap}
 use mathlib.Core.List.{[], ◌∷◌}
 use lib.ListN.{length}
-use borrow.Author.Rules.{rules}
-use Rattle.meaning.proofs.Tests.{denied, affirmed}
 use Rattle.records.proofs.Pieces.{wrote_none, wrote_this}
 use Rattle.reply.specs.Sections.{second_count}
 use Rattle.reply.proofs.write_second_count.Goals as goal

@@ -1,5 +1,5 @@
 -- `schedule::form_and_fit` meets its contract.
-use Rattle.std.proofs.Common.{length, sym, ap, ◌∙◌, arith, rules, leb-true}
+use Rattle.std.proofs.Common.{length, sym, ap, ◌∙◌, arith, leb-true}
 use Rattle.meaning.specs.Block.{form_and_fit}
 use Rattle.meaning.proofs.Tests.{every_at, not-true}
 use Rattle.schedule.proofs.Blocks.{split_joined}

@@ -1,5 +1,5 @@
 -- `schedule::keeps` meets its contract.
-use Rattle.std.proofs.Common.{rules, eqb-true}
+use Rattle.std.proofs.Common.{eqb-true}
 use Rattle.meaning.specs.Block.{keeps}
 use Rattle.schedule.specs.Rules.{rule_of, asked}
 use Rattle.schedule.proofs.keeps.Goals as goal

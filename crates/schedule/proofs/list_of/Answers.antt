@@ -1,5 +1,5 @@
 -- `schedule::list_of` meets its contract.
-use Rattle.std.proofs.Common.{ℕ, ◌-◌, length, take, drop, ap, arith, rules}
+use Rattle.std.proofs.Common.{ℕ, ◌-◌, length, take, drop, ap, arith}
 use Rattle.meaning.specs.Octets.{part}
 use Rattle.meaning.specs.Block.{list_of}
 use Rattle.schedule.proofs.list_of.Goals as goal

@@ -1,5 +1,5 @@
 -- `schedule::ratio_of` meets its contract.
-use Rattle.std.proofs.Common.{◌≡◌, ℕ, ◌-◌, length, take, drop, ap, ◌∙◌, arith, rules}
+use Rattle.std.proofs.Common.{◌≡◌, ℕ, ◌-◌, length, take, drop, ap, ◌∙◌, arith}
 use Rattle.meaning.specs.Octets.{part}
 use Rattle.meaning.specs.Block.{ratio_of}
 use Rattle.meaning.proofs.Lists.{length_part}

@@ -1,5 +1,5 @@
 -- `schedule::sums_agree` meets its contract.
-use Rattle.std.proofs.Common.{length, arith, rules, eq-eqb, ne_eqb}
+use Rattle.std.proofs.Common.{length, arith, eq-eqb, ne_eqb}
 use Rattle.meaning.specs.Block.{joined_block}
 use Rattle.schedule.proofs.Blocks.{sums_spelt}
 use Rattle.schedule.proofs.sums_agree.Goals as goal

@@ -1,5 +1,5 @@
 -- `schedule::sums_of_four` meets its contract.
-use Rattle.std.proofs.Common.{ap, ◌∙◌, rules}
+use Rattle.std.proofs.Common.{ap, ◌∙◌}
 use Rattle.meaning.specs.Block.{Sums, sums_of}
 use Rattle.schedule.proofs.Weights.{four_sums}
 use Rattle.schedule.proofs.sums_of_four.Goals as goal

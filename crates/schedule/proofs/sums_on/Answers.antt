@@ -1,6 +1,6 @@
 -- `schedule::sums_on` meets its contract: the sums so far, with the total and the weights of what is left of the part, come to the
 -- sums with those of the whole part.
-use Rattle.std.proofs.Common.{◌≡◌, ◌+◌, ◌-◌, ◌*◌, ◌%◌, ◌<◌, ◌≤◌, [], length, get_or, drop, sym, refl, ap, ◌∙◌, arith, drop_of_length-le, rules}
+use Rattle.std.proofs.Common.{◌≡◌, ◌+◌, ◌-◌, ◌%◌, ◌<◌, [], length, get_or, drop, sym, refl, ap, ◌∙◌, arith, drop_of_length-le, rules}
 use Rattle.schedule.proofs.Weights.{total, weighed, total_turn, weighed_turn, added, first_is, second_is}
 use Rattle.schedule.proofs.sums_on.Goals as goal
 

@@ -1,5 +1,5 @@
 -- `schedule::times` meets its contract: a product of two numbers of 16 bits fits 32.
-use Rattle.std.proofs.Common.{◌≤◌, mul-le-mul, arith, rules}
+use Rattle.std.proofs.Common.{◌≤◌, mul-le-mul, arith}
 use Rattle.schedule.proofs.times.Goals as goal
 
 pub overflow_mul-result : goal.overflow_mul-result

@@ -1,7 +1,7 @@
 -- `schedule::values_fit` meets its contract.
 use Rattle.std.proofs.Common.{sym, ◌∙◌, arith, rules}
 use mathlib.Core.Bool.{false≢true}
-use Rattle.meaning.proofs.Tests.{not-true, denied, affirmed}
+use Rattle.meaning.proofs.Tests.{not-true}
 use Rattle.schedule.proofs.Blocks.{fit_opened, fit_found}
 use Rattle.schedule.proofs.values_fit.Goals as goal
 

@@ -1,5 +1,5 @@
 -- `schedule::write_sums` meets its contract.
-use Rattle.std.proofs.Common.{◌++◌, refl, ◌∙◌, arith, rules}
+use Rattle.std.proofs.Common.{◌++◌, refl, ◌∙◌, arith}
 use Rattle.meaning.specs.Octets.{be16}
 use Rattle.octets.proofs.Splices.{then, splice_all}
 use Rattle.schedule.proofs.write_sums.Goals as goal

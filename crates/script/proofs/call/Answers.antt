@@ -2,7 +2,6 @@
 use native.Mathlib.Omega.{arith}
 use mathlib.Core.Path.{◌≡◌}
 use lib.ListN.{drop}
-use borrow.Author.Rules.{rules}
 use Rattle.meaning.specs.Octets.{at16}
 use Rattle.meaning.specs.FormB.{make_fresh, local_value, expiry}
 use Rattle.script.specs.Instructions.{profile_asked}

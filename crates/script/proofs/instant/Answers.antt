@@ -1,7 +1,6 @@
 -- `script::instant` meets its contract.
 use mathlib.Core.Path.{◌∙◌}
 use mir.Facts.{to_z-of_z}
-use borrow.Author.Rules.{rules}
 use Rattle.script.proofs.Instants.{counted-fits, instant_low, instant_high}
 use Rattle.script.proofs.instant.Goals as goal
 

@@ -1,9 +1,9 @@
 -- `script::make_room` meets its contract.
-use Prim.Native.Nat.{ℕ, ◌-◌, ◌≤◌}
+use Prim.Native.Nat.{ℕ}
 use native.Mathlib.Omega.{arith}
 use mathlib.Core.Path.{◌≡◌, refl, ap, ◌∙◌}
-use mathlib.Core.List.{List, ◌++◌}
-use lib.ListN.{length, drop, set, replicate, length-set}
+use mathlib.Core.List.{List}
+use lib.ListN.{set, length-set}
 use borrow.Author.Fill.{fill_more}
 use borrow.Author.Rules.{rules}
 use Rattle.script.proofs.Lend.{made}

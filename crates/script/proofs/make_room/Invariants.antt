@@ -1,12 +1,8 @@
 -- `script::make_room` meets its contract.
-use Prim.Native.Nat.{ℕ, ◌-◌, ◌≤◌}
-use native.Mathlib.Omega.{arith}
-use mathlib.Core.Path.{◌≡◌, refl, ap, ◌∙◌}
-use mathlib.Core.List.{List, ◌++◌}
-use lib.ListN.{length, drop, set, replicate, length-set}
-use borrow.Author.Fill.{fill_more}
-use borrow.Author.Rules.{rules}
-use Rattle.script.proofs.Lend.{made}
+use Prim.Native.Nat.{◌-◌, ◌≤◌}
+use mathlib.Core.Path.{◌≡◌}
+use mathlib.Core.List.{◌++◌}
+use lib.ListN.{length, drop, replicate}
 use Rattle.script.proofs.make_room.Given as goal
 
 abbrev pub invariant-loop-i : goal.invariant-loop-i

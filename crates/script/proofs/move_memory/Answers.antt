@@ -1,5 +1,4 @@
 -- `script::move_memory` meets its contract.
-use borrow.Author.Rules.{rules}
 use borrow.Author.Tests.{ne_eqb}
 use Rattle.script.specs.Instructions.{moved_by}
 use Rattle.script.proofs.move_memory.Goals as goal

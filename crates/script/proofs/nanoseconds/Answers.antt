@@ -1,7 +1,6 @@
 -- `script::nanoseconds` meets its contract.
 use Prim.Native.Nat.{ℕ, ◌+◌, ◌*◌}
 use mathlib.Core.Path.{ap₂}
-use borrow.Author.Rules.{rules}
 use Rattle.script.specs.Instructions.{nanoseconds}
 use Rattle.script.proofs.nanoseconds.Goals as goal
 

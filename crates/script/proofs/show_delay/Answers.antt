@@ -1,6 +1,5 @@
 -- `script::show_delay` meets its contract.
 use mathlib.Core.Path.{ap, ◌∙◌}
-use borrow.Author.Rules.{rules}
 use Rattle.meaning.specs.Delay.{delay}
 use Rattle.script.proofs.show_delay.Goals as goal
 

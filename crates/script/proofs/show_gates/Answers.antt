@@ -1,7 +1,6 @@
 -- `script::show_gates` meets its contract.
 use mir.Syntax.{w64}
 use mir.Facts.{to_z-of_z}
-use borrow.Author.Rules.{rules}
 use Rattle.script.proofs.Instants.{instant-fits}
 use Rattle.script.proofs.show_gates.Goals as goal
 

@@ -6,8 +6,6 @@ use mathlib.Core.Bool.{true}
 use mathlib.Core.List.{List, ◌++◌}
 use lib.ListN.{length, take, drop}
 use lib.Seq.{length-take-le, take_at}
-use borrow.Author.Rules.{rules}
-use Rattle.meaning.proofs.Tests.{denied, affirmed}
 use Rattle.script.specs.Instructions.{body_right, called}
 use Rattle.script.specs.Instructions as instructions
 use Rattle.script.proofs.Codes.{call-row, made_right}

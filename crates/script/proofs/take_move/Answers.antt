@@ -5,7 +5,6 @@ use mathlib.Core.Path.{◌≡◌, sym, ap, ◌∙◌}
 use mathlib.Core.List.{List, ◌++◌}
 use lib.ListN.{length, take, drop}
 use lib.Seq.{length-take-le, take_at}
-use borrow.Author.Rules.{rules}
 use Rattle.script.specs.Instructions.{moved_by}
 use Rattle.script.specs.Instructions as instructions
 use Rattle.script.proofs.Codes.{move_body, move_row}

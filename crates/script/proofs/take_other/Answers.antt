@@ -1,10 +1,8 @@
 -- `script::take_other` meets its contract.
-use Prim.Native.Nat.{ℕ, ◌≤◌, ◌<◌}
 use native.Mathlib.Omega.{arith}
 use mathlib.Core.Path.{◌≡◌, refl, sym}
 use lib.ListN.{take}
 use lib.Seq.{length-take-le}
-use borrow.Author.Rules.{rules}
 use Rattle.meaning.specs.Delay.{delay}
 use Rattle.meaning.specs.FormB.{gates}
 use Rattle.text.specs.Lines.{octets_line}
@@ -83,12 +81,11 @@ returns-in-7 c =
     )
 
 pub returns-in-8 : goal.returns-in-8
-returns-in-8 c =
-    (
-      c.requires.1,
-      line_left c.args.out.now c.args.at c.args.lent c.requires.0.2 (octets_line (delay (nanoseconds c.args.body.now))) c.args.memory.now c.args.room.now
-          (delay-row c.args.body.now (take c.args.lent.memory c.args.memory.now) (take c.args.lent.room c.args.room.now) c.in-8.is) c.show_delay.ensures (delay-short (nanoseconds c.args.body.now)) c.requires.0.0 c.requires.0.1,
-    )
+returns-in-8 c = (
+  c.requires.1,
+  line_left c.args.out.now c.args.at c.args.lent c.requires.0.2 (octets_line (delay (nanoseconds c.args.body.now))) c.args.memory.now c.args.room.now
+      (delay-row c.args.body.now (take c.args.lent.memory c.args.memory.now) (take c.args.lent.room c.args.room.now) c.in-8.is) c.show_delay.ensures (delay-short (nanoseconds c.args.body.now)) c.requires.0.0 c.requires.0.1,
+)
 
 pub returns-in_default : goal.returns-in_default
 returns-in_default c =

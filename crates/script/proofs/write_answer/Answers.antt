@@ -1,5 +1,4 @@
 -- `script::write_answer` meets its contract.
-use borrow.Author.Rules.{rules}
 use Rattle.script.proofs.Told.{in_full, in_short}
 use Rattle.script.proofs.write_answer.Goals as goal
 

@@ -1,6 +1,5 @@
 -- `script::write_gates` meets its contract.
 use native.Mathlib.Omega.{arith}
-use borrow.Author.Rules.{rules}
 use Rattle.gates.specs.Answers.{answer_of}
 use Rattle.script.specs.Instructions.{gates_line}
 use Rattle.script.proofs.Instants.{not_open}

@@ -1,6 +1,5 @@
 -- `section::kept` meets its contract.
 use mathlib.Core.Path.{refl}
-use borrow.Author.Rules.{rules}
 use borrow.Author.Tests.{ne_eqb}
 use Rattle.section.specs.Knowing.{kept_after}
 use Rattle.section.proofs.Knows.{kept_other}

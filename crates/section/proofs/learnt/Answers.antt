@@ -1,6 +1,5 @@
 -- `section::learnt` meets its contract.
 use mathlib.Core.Path.{ap}
-use borrow.Author.Rules.{rules}
 use borrow.Author.Tests.{eq-eqb, ne_eqb}
 use Rattle.meaning.specs.Table.{commit}
 use Rattle.section.specs.declared.RunningSums.TheVariants.{Known}

@@ -1,7 +1,6 @@
 -- `section::running_sums` meets its contract.
 use Prim.Native.Nat.{ℕ}
 use mathlib.Core.Path.{ap₂}
-use borrow.Author.Rules.{rules}
 use Rattle.section.specs.Knowing.{running_sums}
 use Rattle.section.proofs.running_sums.Goals as goal
 

@@ -1,9 +1,8 @@
 -- `section::write` meets its contract.
-use Prim.Native.Nat.{◌-◌, ◌≤◌, ◌<◌}
+use Prim.Native.Nat.{◌≤◌, ◌<◌}
 use native.Mathlib.Omega.{arith}
 use mathlib.Core.Path.{refl, sym, ◌∙◌}
 use lib.ListN.{length}
-use borrow.Author.Rules.{rules}
 use Rattle.meaning.specs.Profile.{release18, is_release16}
 use Rattle.operation.specs.Handing.{Inside}
 use Rattle.operation.proofs.Turns.{HandsOut, hands_whole}
@@ -13,7 +12,7 @@ use Rattle.command.proofs.Told.{told_back}
 use Rattle.command.proofs.Walk.{under_ahead}
 use Rattle.section.specs.Knowing.{Knows}
 use Rattle.section.proofs.Knows.{kept_knows, learnt_knows}
-use Rattle.section.proofs.Pass.{Passing, passing_start, passing_end, turn-fits, passing_turn}
+use Rattle.section.proofs.Pass.{passing_start, passing_end, turn-fits, passing_turn}
 use Rattle.command.proofs.Walk.{not_operation}
 use Rattle.section.proofs.write.Goals as goal
 use Rattle.section.proofs.write.Goals.{After-hand_out-h, After-kept, After-learnt-known, In-Operation}
@@ -73,8 +72,7 @@ learnt-known-requires c = (c.carry_out-a.auto.m ∙ long_of _ c.loop-op.invarian
 pub put-c-requires : goal.put-c-requires
 put-c-requires c =
     let k = c.carry_out-a in
-    let l = c.loop-op in
-    (
+    let l = c.loop-op in (
       k.auto.m ∙ long_of _ l.invariant.under.is_sound,
       c.requires.2,
       (ahead (goal.at.put-c-requires c).In-Operation).2,

@@ -1,7 +1,6 @@
 -- `soundness::across_sound` meets its contract.
 use native.Mathlib.Omega.{arith}
 use mathlib.Core.Bool.{and-true}
-use borrow.Author.Rules.{rules}
 use Rattle.meaning.specs.Octets.{every, implies}
 use Rattle.meaning.specs.Memory.{timer, timer_sound}
 use Rattle.meaning.proofs.Lists.{part-octet}

@@ -3,9 +3,7 @@ use Prim.Native.Nat.{ℕ}
 use mathlib.Core.Path.{◌≡◌, sym, ◌∙◌}
 use mathlib.Core.Bool.{◌&&◌}
 use mathlib.Core.List.{List}
-use borrow.Author.Rules.{rules}
 use Rattle.meaning.specs.Octets.{below}
-use Rattle.meaning.proofs.Tests.{denied, affirmed}
 use Rattle.soundness.specs.Fields.{fields_at, all_fields}
 use Rattle.soundness.proofs.Entries.{below_denied, first_field, next_field}
 use Rattle.soundness.proofs.all_fields.Goals as goal

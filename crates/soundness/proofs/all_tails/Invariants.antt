@@ -1,16 +1,10 @@
 -- `soundness::all_tails` meets its contract.
 use Prim.Native.Nat.{◌-◌, ◌≤◌}
-use native.Mathlib.Omega.{arith}
-use mathlib.Core.Bool.{Bool, and_assoc, ◌&&◌}
-use mathlib.Core.Path.{◌≡◌, refl, sym, ap, ◌∙◌}
-use borrow.Author.Rules.{rules}
-use Rattle.meaning.specs.Table.{rooms, rows, room_at}
+use mathlib.Core.Bool.{◌&&◌}
+use mathlib.Core.Path.{◌≡◌}
+use Rattle.meaning.specs.Table.{room_at}
 use Rattle.meaning.specs.Octets.{part, blank, below}
-use Rattle.meaning.proofs.Tests.{below_more}
-use Rattle.meaning.proofs.Places.{room_end, rooms-fill}
-use Rattle.soundness.specs.Fields.{tail_at, all_tails}
-use Rattle.soundness.proofs.Gaps.{room_next, gap_joins}
-use Rattle.soundness.proofs.Entries.{fields_fit}
+use Rattle.soundness.specs.Fields.{tail_at}
 use Rattle.soundness.proofs.all_tails.Given as goal
 
 abbrev pub invariant-loop-k : goal.invariant-loop-k

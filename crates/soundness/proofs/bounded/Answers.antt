@@ -1,6 +1,5 @@
 -- `soundness::bounded` meets its contract.
 use mathlib.Core.Path.{sym}
-use borrow.Author.Rules.{rules}
 use borrow.Author.Tests.{ne_eqb}
 use Rattle.meaning.specs.Profile.{is_release16}
 use Rattle.meaning.proofs.Bounded.{bounded_18}

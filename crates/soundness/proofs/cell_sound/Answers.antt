@@ -1,7 +1,6 @@
 -- `soundness::cell_sound` meets its contract.
 use mathlib.Core.Path.{ap, ◌∙◌}
 use mathlib.Core.Bool.{Bool, cond}
-use borrow.Author.Rules.{rules}
 use Rattle.meaning.specs.Table.{row_at, by_port}
 use Rattle.table.proofs.Rows.{name_is, owner_is}
 use Rattle.soundness.proofs.Entries.{cell_found}

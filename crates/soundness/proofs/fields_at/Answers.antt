@@ -2,7 +2,6 @@
 use native.Mathlib.Omega.{arith}
 use mathlib.Core.Path.{sym, ap, ◌∙◌}
 use borrow.Author.Tests.{leb-true}
-use borrow.Author.Rules.{rules}
 use Rattle.meaning.specs.Table.{row_at}
 use Rattle.meaning.specs.Memory.{cell, size}
 use Rattle.meaning.proofs.Tests.{every_at, not-true}

@@ -1,5 +1,4 @@
 -- `soundness::flag_limit` meets its contract.
-use Rattle.meaning.proofs.Tests.{denied, affirmed}
 use Rattle.soundness.proofs.flag_limit.Goals as goal
 
 pub returns-then-not-port : goal.returns-then-not-port

@@ -2,10 +2,8 @@
 use mathlib.Core.Path.{◌≡◌, sym, ◌∙◌}
 use mathlib.Core.Bool.{true, false}
 use borrow.Author.Tests.{ne_eqb}
-use borrow.Author.Rules.{rules}
 use Rattle.meaning.specs.Octets.{every}
 use Rattle.meaning.specs.Memory.{sound}
-use Rattle.meaning.proofs.Tests.{denied, affirmed}
 use Rattle.soundness.specs.Fields.{all_fields}
 use Rattle.soundness.proofs.Entries.{sound_parts}
 use Rattle.soundness.proofs.sound.Goals as goal

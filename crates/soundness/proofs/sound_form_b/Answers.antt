@@ -2,11 +2,10 @@
 use mathlib.Core.Path.{◌≡◌, sym, ap, ◌∙◌}
 use mathlib.Core.Bool.{true}
 use borrow.Author.Tests.{eq-eqb, ne_eqb}
-use borrow.Author.Rules.{rules}
 use Rattle.meaning.specs.Memory.{sound}
 use Rattle.meaning.specs.Profile.{bounded, sound_in}
 use Rattle.meaning.specs.FormB.{profile_of, in_form_b, sound_form_b}
-use Rattle.meaning.proofs.Tests.{denied, affirmed, and_both}
+use Rattle.meaning.proofs.Tests.{and_both}
 use Rattle.meaning.proofs.Sound.{opened}
 use Rattle.octets.proofs.Splices.{rest_is_lem}
 use Rattle.soundness.proofs.sound_form_b.Goals as goal

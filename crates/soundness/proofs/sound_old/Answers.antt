@@ -1,10 +1,8 @@
 -- `soundness::sound_old` meets its contract.
 use mathlib.Core.Path.{◌≡◌, sym, ◌∙◌}
 use mathlib.Core.Bool.{true}
-use borrow.Author.Rules.{rules}
 use Rattle.meaning.specs.Memory.{sound}
 use Rattle.meaning.specs.Moves.{sound_old}
-use Rattle.meaning.proofs.Tests.{denied, affirmed}
 use Rattle.meaning.proofs.Sound.{opened}
 use Rattle.soundness.proofs.sound_old.Goals as goal
 use Rattle.soundness.proofs.sound_old.Goals.{Else-not-sound}

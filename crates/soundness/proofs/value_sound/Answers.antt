@@ -1,7 +1,6 @@
 -- `soundness::value_sound` meets its contract.
 use mathlib.Core.Path.{◌≡◌, sym, ◌∙◌}
 use mathlib.Core.Bool.{true, false}
-use borrow.Author.Rules.{rules}
 use Rattle.meaning.specs.Memory.{is_present}
 use Rattle.soundness.proofs.value_sound.Goals as goal
 

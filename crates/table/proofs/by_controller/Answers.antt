@@ -1,5 +1,4 @@
 -- `table::by_controller` meets its contract.
-use borrow.Author.Rules.{rules}
 use Rattle.meaning.specs.Table.{by_controller}
 use Rattle.table.specs.Rows.{owner_of}
 use Rattle.table.proofs.by_controller.Goals as goal

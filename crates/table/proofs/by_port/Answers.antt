@@ -1,5 +1,4 @@
 -- `table::by_port` meets its contract.
-use borrow.Author.Rules.{rules}
 use Rattle.meaning.specs.Table.{by_port}
 use Rattle.table.specs.Rows.{owner_of}
 use Rattle.table.proofs.by_port.Goals as goal

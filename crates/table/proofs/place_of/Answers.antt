@@ -1,7 +1,6 @@
 -- `table::place_of` meets its contract.
 use mathlib.Core.Path.{sym, ap}
 use Rattle.meaning.specs.Table.{rows, place_in, place}
-use Rattle.table.proofs.Rows.{other}
 use Rattle.std.proofs.Common.{rules, tests}
 use Rattle.table.proofs.place_of.Goals as goal
 

@@ -1,11 +1,10 @@
 -- `table::row_at` meets its contract.
 use native.Mathlib.Omega.{arith}
 use mathlib.Core.Path.{refl}
-use borrow.Author.Rules.{rules}
 use Rattle.meaning.specs.Table.{rows, row_at, rooms, room_at}
 use Rattle.schedule.specs.Rules.{rule_of}
 use Rattle.table.specs.Rows.{owner_of}
-use Rattle.table.proofs.Rows.{arm, no_arm, past}
+use Rattle.table.proofs.Rows.{arm, no_arm}
 use Rattle.table.proofs.row_at.Goals as goal
 
 pub returns-in-0 : goal.returns-in-0

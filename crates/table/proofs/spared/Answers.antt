@@ -1,6 +1,5 @@
 -- `table::spared` meets its contract.
 use native.Mathlib.Omega.{arith}
-use mathlib.Core.Path.{refl}
 use Rattle.meaning.specs.Profile.{is_release16, spared}
 use Rattle.table.proofs.spared.Goals as goal
 

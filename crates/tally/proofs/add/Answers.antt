@@ -4,7 +4,6 @@ use native.Mathlib.Omega.{arith}
 use mathlib.Core.Path.{◌≡◌, sym, ap, ◌∙◌}
 use mathlib.Core.List.{List}
 use lib.ListN.{length}
-use borrow.Author.Rules.{rules}
 use Rattle.meaning.specs.Octets.{zeros, part}
 use Rattle.operation.specs.Handing.{name_of, from_of, size_of}
 use Rattle.operation.proofs.Turns.{inside-value}

@@ -1,6 +1,5 @@
 -- `tally::any_read` meets its contract.
 use mathlib.Core.Path.{refl}
-use borrow.Author.Rules.{rules}
 use Rattle.tally.specs.Tallies.{any_read}
 use Rattle.tally.proofs.any_read.Goals as goal
 

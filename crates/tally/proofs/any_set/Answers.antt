@@ -1,6 +1,5 @@
 -- `tally::any_set` meets its contract.
 use mathlib.Core.Path.{refl}
-use borrow.Author.Rules.{rules}
 use Rattle.tally.specs.Tallies.{any_set}
 use Rattle.tally.proofs.any_set.Goals as goal
 

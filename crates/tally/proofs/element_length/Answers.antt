@@ -1,7 +1,6 @@
 -- `tally::element_length` meets its contract.
 use native.Mathlib.Omega.{arith}
 use mathlib.Core.Path.{refl}
-use borrow.Author.Rules.{rules}
 use Rattle.tally.specs.Tallies.{element_length}
 use Rattle.tally.proofs.element_length.Goals as goal
 

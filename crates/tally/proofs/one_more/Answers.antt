@@ -1,6 +1,5 @@
 -- `tally::one_more` meets its contract.
 use mathlib.Core.Path.{refl}
-use borrow.Author.Rules.{rules}
 use Rattle.tally.specs.Tallies.{grown}
 use Rattle.tally.proofs.one_more.Goals as goal
 

@@ -1,7 +1,6 @@
 -- `tally::read_octets` meets its contract.
 use native.Mathlib.Omega.{arith}
 use mathlib.Core.Path.{refl}
-use borrow.Author.Rules.{rules}
 use Rattle.tally.specs.Tallies.{read_octets}
 use Rattle.tally.proofs.read_octets.Goals as goal
 

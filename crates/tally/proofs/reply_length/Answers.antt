@@ -1,5 +1,4 @@
 -- `tally::reply_length` meets its contract.
-use borrow.Author.Rules.{rules}
 use Rattle.tally.specs.Tallies.{reply_length}
 use Rattle.tally.proofs.reply_length.Goals as goal
 

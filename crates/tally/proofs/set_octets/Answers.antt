@@ -1,7 +1,6 @@
 -- `tally::set_octets` meets its contract.
 use native.Mathlib.Omega.{arith}
 use borrow.Author.Tests.{eq-eqb, ne_eqb}
-use borrow.Author.Rules.{rules}
 use Rattle.tally.specs.Tallies.{long_octets, set_octets}
 use Rattle.tally.proofs.set_octets.Goals as goal
 

@@ -2,7 +2,6 @@
 use native.Mathlib.Omega.{arith}
 use mathlib.Core.Path.{◌≡◌, sym, ap, ◌∙◌}
 use lib.ListN.{length}
-use borrow.Author.Rules.{rules}
 use Rattle.meaning.specs.Step.{shown}
 use Rattle.command.proofs.Shown.{shown-commit, shown-value, shown-short}
 use Rattle.tally.proofs.shown_length.Goals as goal

@@ -1,10 +1,9 @@
 -- `tally::take` meets its contract.
-use Prim.Native.Nat.{◌-◌, ◌*◌, ◌≤◌, ◌<◌}
+use Prim.Native.Nat.{◌*◌, ◌≤◌, ◌<◌}
 use native.Mathlib.Omega.{arith}
 use mathlib.Core.Path.{refl, sym, ◌∙◌}
 use mathlib.Core.Bool.{false≢true}
 use lib.ListN.{length}
-use borrow.Author.Rules.{rules}
 use Rattle.meaning.specs.Profile.{release18, is_release16}
 use Rattle.operation.specs.Handing.{Inside}
 use Rattle.operation.proofs.Turns.{HandsOut, inside-within, hands_whole}
@@ -13,7 +12,7 @@ use Rattle.command.proofs.Sets.{long_of}
 use Rattle.command.proofs.Told.{told_back}
 use Rattle.command.proofs.Walk.{under_ahead}
 use Rattle.tally.proofs.Plus.{below_more}
-use Rattle.tally.proofs.Loop.{Counting, counting_start, counting_end, counting_turn}
+use Rattle.tally.proofs.Loop.{counting_start, counting_end, counting_turn}
 use Rattle.command.proofs.Walk.{not_operation}
 use Rattle.tally.proofs.take.Goals as goal
 use Rattle.tally.proofs.take.Goals.{After-hand_out-h, In-Operation}

@@ -1,6 +1,5 @@
 -- `values::cycle` meets its contract.
 use native.Mathlib.Omega.{arith}
-use borrow.Author.Rules.{rules}
 use borrow.Author.Tests.{leb-true}
 use Rattle.meaning.specs.Octets.{at32}
 use Rattle.meaning.specs.Block.{ratio_ok}

@@ -1,10 +1,10 @@
 -- `values::entries_ok` meets its contract: the entries passed and those left give what the whole list gives.
-use Prim.Native.Nat.{◌+◌, ◌-◌, ◌*◌, ◌/◌, ◌≤◌, ◌<◌}
+use Prim.Native.Nat.{◌+◌, ◌-◌, ◌*◌, ◌/◌, ◌<◌}
 use native.Mathlib.Omega.{arith}
 use native.Mathlib.Nat.{sub-zero, sub-eq-zero_of_le}
 use mathlib.Core.Path.{◌≡◌, ◌∙◌}
-use mathlib.Core.Bool.{◌&&◌, and-true}
-use lib.ListN.{length, drop}
+use mathlib.Core.Bool.{and-true}
+use lib.ListN.{length}
 use borrow.Author.Rules.{rules}
 use Rattle.meaning.specs.Octets.{part}
 use Rattle.meaning.specs.Block.{cut_in, entries_of, entry_ok, each_ok}

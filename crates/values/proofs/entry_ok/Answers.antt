@@ -3,7 +3,6 @@ use Prim.Native.Nat.{◌<◌}
 use native.Mathlib.Omega.{arith}
 use mathlib.Core.Bool.{and-true}
 use lib.Dec.{leb}
-use borrow.Author.Rules.{rules}
 use Rattle.meaning.specs.Octets.{octet, at32, every}
 use Rattle.meaning.specs.Block.{interval, entry_ok}
 use Rattle.values.proofs.Values.{head_tests}

@@ -1,7 +1,6 @@
 -- `values::fits_cycle` meets its contract.
 use mathlib.Core.Path.{ap}
 use lib.Dec.{leb}
-use borrow.Author.Rules.{rules}
 use Rattle.values.proofs.fits_cycle.Goals as goal
 
 pub returns : goal.returns

@@ -1,9 +1,9 @@
 -- `values::intervals` meets its contract: the intervals passed and those left give what the whole list gives.
-use Prim.Native.Nat.{◌+◌, ◌-◌, ◌*◌, ◌/◌, ◌≤◌, ◌<◌}
+use Prim.Native.Nat.{◌+◌, ◌-◌, ◌*◌, ◌/◌, ◌<◌}
 use native.Mathlib.Omega.{arith}
 use native.Mathlib.Nat.{sub-zero, zero-add, add-zero, sub-eq-zero_of_le}
 use mathlib.Core.Path.{◌≡◌}
-use lib.ListN.{length, drop}
+use lib.ListN.{length}
 use borrow.Author.Rules.{rules}
 use Rattle.meaning.specs.Octets.{part}
 use Rattle.meaning.specs.Block.{cut_in, entries_of, interval, intervals}

@@ -1,13 +1,8 @@
 -- `values::intervals` meets its contract: the intervals passed and those left give what the whole list gives.
-use Prim.Native.Nat.{◌+◌, ◌-◌, ◌*◌, ◌/◌, ◌≤◌, ◌<◌}
-use native.Mathlib.Omega.{arith}
-use native.Mathlib.Nat.{sub-zero, zero-add, add-zero, sub-eq-zero_of_le}
+use Prim.Native.Nat.{◌+◌, ◌-◌, ◌*◌, ◌≤◌}
 use mathlib.Core.Path.{◌≡◌}
-use lib.ListN.{length, drop}
-use borrow.Author.Rules.{rules}
-use Rattle.meaning.specs.Octets.{part}
-use Rattle.meaning.specs.Block.{cut_in, entries_of, interval, intervals}
-use Rattle.values.proofs.Walks.{intervals-turn}
+use lib.ListN.{drop}
+use Rattle.meaning.specs.Block.{cut_in, entries_of, intervals}
 use Rattle.values.proofs.intervals.Given as goal
 
 abbrev pub invariant-loop-k : goal.invariant-loop-k

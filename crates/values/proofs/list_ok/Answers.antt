@@ -1,5 +1,4 @@
 -- `values::list_ok` meets its contract.
-use borrow.Author.Rules.{rules}
 use Rattle.meaning.specs.Block.{list_ok}
 use Rattle.values.proofs.list_ok.Goals as goal
 

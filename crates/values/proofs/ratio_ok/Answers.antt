@@ -1,7 +1,6 @@
 -- `values::ratio_ok` meets its contract.
 use mathlib.Core.Path.{ap}
 use lib.Dec.{leb}
-use borrow.Author.Rules.{rules}
 use Rattle.meaning.specs.Block.{ratio_ok}
 use Rattle.values.proofs.ratio_ok.Goals as goal
 

@@ -2,7 +2,6 @@
 use Prim.Native.Nat.{ℕ}
 use mathlib.Core.Path.{ap}
 use lib.Dec.{ltb}
-use borrow.Author.Rules.{rules}
 use Rattle.meaning.specs.Block.{time_ok}
 use Rattle.values.proofs.time_ok.Goals as goal
 

@@ -1,5 +1,4 @@
 -- `values::within` meets its contract.
-use borrow.Author.Rules.{rules}
 use Rattle.values.proofs.within.Goals as goal
 
 pub returns : goal.returns

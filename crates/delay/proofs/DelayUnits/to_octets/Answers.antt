@@ -1,5 +1,4 @@
 -- `delay::DelayUnits::to_octets` meets its contract.
-use borrow.Author.Rules.{rules}
 use Rattle.delay.proofs.Spelt.{eight_written}
 use Rattle.delay.proofs.DelayUnits.to_octets.Goals as goal
 

@@ -1,5 +1,4 @@
 -- `delay::Nanoseconds::to_octets` meets its contract.
-use borrow.Author.Rules.{rules}
 use Rattle.meaning.specs.Delay.{delay}
 use Rattle.delay.proofs.Nanoseconds.to_octets.Goals as goal
 
