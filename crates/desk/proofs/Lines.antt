@@ -1,49 +1,39 @@
 -- Lines answered one after another: what is printed up to the next line feed and behind it, and a turn of the loop over them.
-use Prim.Native.Nat.{ℕ, suc, ◌+◌, ◌≤◌, ◌<◌}
+use Prim.Native.Nat.{ℕ, suc, ◌<◌}
 use native.Mathlib.Omega.{arith}
-use types.Run.{OneOf, miss}
-use mathlib.Core.Path.{◌≡◌, refl, sym, ap, ap₂, subst, ◌∙◌}
+use mathlib.Core.Path.{◌≡◌, refl, sym, ap, subst}
 use mathlib.Core.Bool.{Bool, true, false, ◌||◌, cond, false≢true}
-use mathlib.Core.List.{List, [], ◌∷◌, ◌++◌, append_assoc}
-use lib.ListN.{length, take, drop, length-append, drop_of_length-le}
-use lib.Seq.{take_at, length-take-le}
-use denote.Enum.Declared.{tag_of}
-use Rattle.meaning.specs.Octets.{splice}
-use Rattle.meaning.proofs.Lists.{splice-length}
+use mathlib.Core.List.{List, [], ◌∷◌, ◌++◌}
+use lib.ListN.{length, take}
 use Rattle.octets.specs.Writing.{Wrote}
 use Rattle.octets.proofs.Splices.{splice-nil}
 use Rattle.typed.specs.declared.Form.{Form}
 use Rattle.typed.specs.declared.Form.TheVariants.{Blank, Digit, Lead, Number, Numbered, Octets, Half, Refused, Other}
 use Rattle.typed.specs.declared.Line.{Line}
-use Rattle.typed.specs.declared.Scanned.{Scanned}
-use Rattle.typed.specs.Forms.{Small, Typed, fresh, typed, typed_all, typed_in, Keeps}
-use Rattle.typed.specs.Scanning.{is_feed, before_feed, has_feed, behind_feed, Scans}
-use Rattle.typed.specs.contracts.Form.{the_type}
+use Rattle.typed.specs.Forms.{Small, Typed, fresh, typed, typed_all, typed_in}
+use Rattle.typed.specs.Scanning.{is_feed, before_feed, has_feed, behind_feed}
 use Rattle.words.specs.Lines.{not_a_message}
-use Rattle.desk.specs.Lines.{answer_by, answer_of, printed, last_of, Batched}
+use Rattle.desk.specs.Lines.{answer_by, answer_of, printed, last_of}
 
 -- ---- what a line prints that stands for none of the others
 
-pub other_form : (f : Form) (s : List ℕ) → OneOf (1 ∷ 2 ∷ 6 ∷ 8 ∷ []) (tag_of the_type f) → answer_by f s ≡ not_a_message
+pub other_form : (f : Form) (s : List ℕ) → (f ≡ Blank → ⊥) → ((n : ℕ) → f ≡ Refused n → ⊥) → ((n : ℕ) → f ≡ Number n → ⊥) → ((n : ℕ) → f ≡ Numbered n → ⊥) → (f ≡ Octets → ⊥)
+    → answer_by f s ≡ not_a_message
 unfolding answer_by
-other_form Blank s t = absurd (miss (1 ∷ 2 ∷ 6 ∷ 8 ∷ []) 0 tt t)
-other_form (Digit h) s t = refl
-other_form (Lead n) s t = refl
-other_form (Number n) s t = absurd (miss (1 ∷ 2 ∷ 6 ∷ 8 ∷ []) 3 tt t)
-other_form (Numbered n) s t = absurd (miss (1 ∷ 2 ∷ 6 ∷ 8 ∷ []) 4 tt t)
-other_form Octets s t = absurd (miss (1 ∷ 2 ∷ 6 ∷ 8 ∷ []) 5 tt t)
-other_form (Half h) s t = refl
-other_form (Refused n) s t = absurd (miss (1 ∷ 2 ∷ 6 ∷ 8 ∷ []) 7 tt t)
-other_form Other s t = refl
+other_form Blank s b r n m o = absurd (b refl)
+other_form (Digit h) s b r n m o = refl
+other_form (Lead k) s b r n m o = refl
+other_form (Number k) s b r n m o = absurd (n k refl)
+other_form (Numbered k) s b r n m o = absurd (m k refl)
+other_form Octets s b r n m o = absurd (o refl)
+other_form (Half h) s b r n m o = refl
+other_form (Refused k) s b r n m o = absurd (r k refl)
+other_form Other s b r n m o = refl
 
 -- what a line prints, by its form
 pub form-answer : (room : List ℕ) (l : Line) (f : Form) → l.form ≡ f → answer_of (typed_in room l) ≡ answer_by f (take l.count room)
 unfolding answer_of
 form-answer room l f e = ap (λ (x : Form). answer_by x (take l.count room)) e
-
-pub other_answer : (room : List ℕ) (l : Line) → OneOf (1 ∷ 2 ∷ 6 ∷ 8 ∷ []) (tag_of the_type l.form) → answer_of (typed_in room l) ≡ not_a_message
-unfolding answer_of
-other_answer room l t = other_form l.form (take l.count room) t
 
 pub refused-small : (f : Form) (n : ℕ) → f ≡ Refused n → Small f → n < 100
 refused-small f n e h = subst Small e h

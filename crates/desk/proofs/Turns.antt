@@ -1,9 +1,9 @@
 -- A turn of the loop over lines: a line that has ended is answered, and one that goes on is kept; what is left to print, behind what was, stays the same.
-use Prim.Native.Nat.{ℕ, ◌+◌, ◌-◌, ◌≤◌, ◌<◌}
+use Prim.Native.Nat.{ℕ, ◌+◌, ◌≤◌, ◌<◌}
 use native.Mathlib.Omega.{arith}
-use mathlib.Core.Path.{◌≡◌, refl, sym, ap, ap₂, subst, ◌∙◌}
+use mathlib.Core.Path.{◌≡◌, refl, sym, ap, subst, ◌∙◌}
 use mathlib.Core.Bool.{Bool, true, false, cond}
-use mathlib.Core.List.{List, [], ◌∷◌, ◌++◌, append_assoc, append-nil}
+use mathlib.Core.List.{List, [], ◌++◌, append_assoc}
 use lib.ListN.{length, take, drop, length-append, length-drop, drop_of_length-le}
 use lib.Seq.{take_at, length-take-le}
 use Rattle.meaning.specs.Octets.{splice}
@@ -12,12 +12,7 @@ use Rattle.typed.specs.declared.Line.{Line}
 use Rattle.typed.specs.declared.Scanned.{Scanned}
 use Rattle.typed.specs.Forms.{Typed, fresh, typed_all, typed_in, Keeps, Starts}
 use Rattle.typed.specs.Scanning.{before_feed, has_feed, behind_feed, Scans}
-use Rattle.stdio.specs.declared.Got.{Got}
-use Rattle.stdio.specs.declared.Got.TheVariants.{Octets}
-use Rattle.stdio.specs.Pieces.{Reads}
-use Rattle.desk.specs.declared.Served.{Served}
-use Rattle.desk.specs.declared.Served.TheVariants.{Goes}
-use Rattle.desk.specs.Lines.{answer_of, printed, last_of, Batched, Serves}
+use Rattle.desk.specs.Lines.{answer_of, printed, last_of, Batched}
 use Rattle.desk.proofs.Lines.{printed_feed, last_feed, no_feed}
 
 -- ---- what was written
@@ -116,17 +111,8 @@ due_now held t₀ from room l next at out t d =
     record { same = t.same; joined = t.joined; all = λ z. absurd (omega (arith, z, d)); onward = λ z. t.ahead (omega (arith, d)); within = t.inside; short = t.short }
 
 -- all that is held has been taken: the line that goes on is the last one
-pub taken-all : (held : List ℕ) (t : Typed) (from : ℕ) (t' : Typed) (from' at : ℕ) (out : List ℕ) → Batched held t from t' from' at out → at < 32768 → t' ≡ last_of t (drop from held)
+pub taken-all : {held : List ℕ} {t : Typed} {from : ℕ} {t' : Typed} {from' at : ℕ} {out : List ℕ} → Batched held t from t' from' at out → at < 32768 → t' ≡ last_of t (drop from held)
 unfolding last_of
-taken-all held t from t' from' at out b h =
+taken-all {held} {t} {from} {t'} {from'} b h =
     let d : drop from' held ≡ [] = drop_of_length-le held {i = from'} (omega (arith, b.all h)) in
     sym (ap (last_of t') d) ∙ b.same
-
--- ---- what a read brought lies within the block
-
-pub brought : (block block' : List ℕ) (r : Got) (n : ℕ) → r ≡ Octets n → Reads block 0 r block' → length block' ≡ length block → n ≤ length block'
-brought block block' r n e h k = let b = subst (λ (x : Got). Reads block 0 x block') e h in omega (arith, b.1.1, k)
-
--- the line that goes on is kept
-pub goes : (held : List ℕ) (t : Typed) (r : Served) (room : List ℕ) (l : Line) → r ≡ Goes l → Serves held t r room → Keeps room l
-goes held t r room l e h = (subst (λ (x : Served). Serves held t x room) e h).1

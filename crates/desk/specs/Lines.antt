@@ -2,7 +2,6 @@
 use Rattle.std.specs.Prelude.{ℕ, ◌≤◌, ◌<◌, ◌≡◌, cond, List, [], ◌∷◌, ◌++◌, length, take, drop}
 use Rattle.typed.specs.declared.Form.{Form}
 use Rattle.typed.specs.declared.Form.TheVariants.{Blank, Digit, Lead, Number, Numbered, Octets, Half, Refused, Other}
-use Rattle.typed.specs.declared.Line.{Line}
 use Rattle.typed.specs.Forms.{Typed, fresh, typed, typed_in, Keeps}
 use Rattle.typed.specs.Scanning.{is_feed}
 use Rattle.text.specs.Lines.{line}
