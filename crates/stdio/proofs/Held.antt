@@ -7,15 +7,13 @@ use mathlib.Core.Bool.{Bool, true, false, cond}
 use mathlib.Core.List.{List, ◌++◌}
 use lib.ListN.{length, get_or, take, drop, set, length-drop, take-append-drop}
 use lib.Dec.{leb}
-use lib.Seq.{take-suc, take-suc-set, drop-set-lt, drop-drop, get_or-drop, length-take-le}
+use lib.Seq.{take-suc, take-suc-set, drop-set-lt, drop-drop, get_or-drop}
 use borrow.Author.Tests.{le-leb, lt-leb}
 use Rattle.meaning.specs.Octets.{at16, part, splice}
 use Rattle.meaning.proofs.Lists.{length_part}
 use Rattle.octets.proofs.Splices.{splice_front}
-use Rattle.stdio.specs.Pieces.{needed, next_at, Continues}
+use Rattle.stdio.specs.Pieces.{needed, next_at}
 use Rattle.stdio.specs.declared.Next.TheVariants.{Whole, More}
-use Rattle.stdio.specs.declared.Input.{Input}
-use Rattle.stdio.specs.declared.Input.TheVariants.{Held}
 
 -- ---- a piece's octets
 
@@ -88,11 +86,3 @@ in_front s₀ from to {n} s₂ h k e f =
     let l = length_part s₀ from n (omega (arith, e.0)) in
     let g : take n s₂ ≡ part s₀ from n = f ∙ ap (take n) e.1 ∙ (rw l at (splice_front s₀ (part s₀ from n))) in
     rw e.0 at g
-
--- what is held where the input goes on
-pub goes_on : (block : List ℕ) (from to : ℕ) (block' : List ℕ) {end : ℕ} {r : Input} → r ≡ Held end → Continues block from to r block' → length block' ≡ length block
-    → (end ≤ length block') × (length (take end block') ≡ end)
-goes_on block from to block' {end} e f l =
-    let g : Continues block from to (Held end) block' = rw e at f in
-    let k : end ≤ length block' = omega (arith, g.2) in
-    (k, length-take-le end block' k)
