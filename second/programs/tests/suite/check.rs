@@ -1,5 +1,5 @@
 //! What `./check` tells and ends with, over a toolchain that stands in: the proved programs beside
-//! the second ones, and the edits that are tried if they are asked for.
+//! the second ones.
 
 use std::fs;
 use std::os::unix::fs::symlink;
@@ -7,13 +7,29 @@ use std::os::unix::process::ExitStatusExt;
 use std::thread::sleep;
 use std::time::{Duration, SystemTime};
 
+use crate::place::{until, Place, ANSWERS};
 use crate::process::{DESK, RIG};
-use crate::toolchain::{until, Place};
 
-const LAST: &str = "3 passed, 0 failed\n";
+pub const LAST: &str = "3 passed, 0 failed\n";
 const DIFFER: &str =
     "check: the proved programs differ from the second ones, or could not be compared; \
                       what was printed stands further up\n";
+
+/// What the gate is told to have done, line by line, and all other lines: the comparison prints its own beside it.
+pub fn parted(printed: &str) -> (String, String) {
+    let lines = printed.split_inclusive('\n');
+    lines.partition(|line| ["rt: ", "== "].iter().any(|head| line.starts_with(head)))
+}
+
+/// What a gate prints that proves three programs and tries some edits, but for its last line.
+pub fn gate(edits: &[&str]) -> String {
+    let proved = |name| format!("== {name}\nrt: {name} proved\nrt: {name}: its tests are proved\n");
+    let refused =
+        |edit: &&str| format!("rt: must-fail crates/{edit}.edit: refused, as it must be\n");
+    let ok = "rt: ok; handles allowed: none; must-fail edits: 1 refused; every proof and must-fail edit was done in this run\n";
+    let proved = ["desk", "bridge", "rig"].map(proved).concat();
+    proved + &edits.iter().map(refused).collect::<String>() + ok
+}
 
 /// The commands that compare, as `./check` printed them, each with what it printed in turn.
 fn comparisons(printed: &str) -> Vec<(&str, &str)> {
@@ -64,8 +80,10 @@ fn programs_that_agree_pass() {
     let began = seconds();
     let (status, out, err) = place.shell("./check");
     assert_eq!((status, err.as_str()), (0, ""));
-    let compared = out.strip_suffix(LAST).unwrap();
-    let compared = comparisons(compared);
+    assert!(out.ends_with(LAST), "{out}");
+    let (told, rest) = parted(&out);
+    assert_eq!(told, gate(&[]));
+    let compared = comparisons(rest.strip_suffix(LAST).unwrap());
     assert_eq!(compared.len(), COMPARED.len(), "{out}");
     for ((command, printed), told) in compared.into_iter().zip(COMPARED) {
         assert_seeds(command, told, [began, seconds()]);
@@ -74,6 +92,32 @@ fn programs_that_agree_pass() {
         let (status, again, _) = place.shell(command);
         assert_eq!((status, again.as_str()), (0, printed));
     }
+}
+
+#[test]
+fn what_the_gate_has_built_is_started_at_once() {
+    let place = Place::fresh();
+    fs::write(place.kit("kept"), "rig\n").unwrap();
+    let (status, out, _) = place.shell("./check");
+    let (_, rest) = parted(&out);
+    assert_eq!((status, comparisons(&rest).len()), (0, 3), "{out}");
+    let sample = "./bridge samples/three-frames.hex";
+    place.assert_shell(sample, 0, ANSWERS, "");
+    place.assert_shell("./rig </dev/null && ./desk </dev/null", 0, "", "");
+    let asked = || fs::read_to_string(place.kit("asked")).unwrap();
+    assert_eq!(asked(), "ci\n");
+    // What is edited while the gate runs is built anew, and where something builds nothing is handed over.
+    fs::write(place.kit("hold"), "").unwrap();
+    let check = place.start("./check");
+    until(|| asked() == "ci\nci\n");
+    place.shell("touch crates/mid/src/lib.rt; rm \"$KIT/hold\"");
+    assert!(check.wait_with_output().unwrap().status.success());
+    assert_eq!(place.shell(sample).1, ANSWERS);
+    assert_eq!(asked(), "ci\nci\nbridge\n");
+    let held =
+        "{ flock 9; echo old >target/bin/bridge; ./check; cat target/bin/bridge; } 9>>target/lock";
+    let (_, out, _) = place.shell(held);
+    assert!(out.ends_with(&format!("{LAST}old\n")), "{out}");
 }
 
 #[test]
@@ -94,11 +138,20 @@ fn a_program_that_differs_fails() {
         let (status, out, err) = place.shell("./check");
         assert_eq!((status, err.as_str()), (1, ""));
         assert!(out.ends_with(&format!("{LAST}{DIFFER}")), "{out}");
-        let told = comparisons(&out);
+        let (_, rest) = parted(&out);
+        let told = comparisons(&rest);
+        assert_eq!(told.len(), COMPARED.len() + 1, "{out}");
         for (command, printed) in told.into_iter().take(COMPARED.len()) {
             assert_eq!(agrees(printed), !command.contains(name), "{out}");
         }
     }
+}
+
+/// Asserts what commands end with, and print but for what the gate is told to have done.
+fn assert_rest(place: &Place, script: &str, status: i32, rest: &str) {
+    let (ended, out, err) = place.shell(script);
+    let expected = (status, rest, "");
+    assert_eq!((ended, &*parted(&out).1, &*err), expected, "{script}");
 }
 
 #[test]
@@ -106,24 +159,20 @@ fn programs_that_nothing_can_run_are_not_compared() {
     let place = Place::fresh();
     fs::write(place.kit("machine"), "riscv64").unwrap();
     let told = "check: the proved programs are not compared: they are for x86-64, this machine is \
-                riscv64, and the toolchain has no emulator\n";
-    place.assert_shell("./check", 0, &format!("{told}{LAST}"), "");
+                riscv64, and no emulator is on the PATH\n";
+    assert_rest(&place, "./check", 0, &format!("{told}{LAST}"));
 }
 
 #[test]
 fn what_cannot_be_compared_fails() {
     let place = Place::fresh();
     fs::write(place.kit("unsaid"), "").unwrap();
-    let told =
-        "check: 'rt ci' has ended, and target/log does not say that it has built 'desk'\n";
-    place.assert_shell("./check", 1, &format!("{told}{LAST}{DIFFER}"), "");
-    // A word of an earlier run is not taken for one of this.
-    place.assert_shell(
-        "for name in bridge rig desk; do echo built >target/log/$name.res; done; ./check",
-        1,
-        &format!("{told}{LAST}{DIFFER}"),
-        "",
-    );
+    let told = "check: 'rt ci' has ended, and has not said that it has proved 'desk'\n";
+    let all = format!("{told}{LAST}{DIFFER}");
+    assert_rest(&place, "./check", 1, &all);
+    // A program of an earlier run is not taken for one of this.
+    let before = "for name in bridge rig desk; do cp \"$KIT/second/$name\" crates/$name/out; done";
+    assert_rest(&place, &format!("{before}; ./check"), 1, &all);
     let place = Place::fresh();
     fs::remove_file(place.kit("second/rig")).unwrap();
     let (status, out, _) = place.shell("./check");
@@ -138,7 +187,9 @@ fn what_cannot_be_compared_fails() {
     let (status, out, _) = place.shell("./check");
     assert_eq!(status, 1);
     assert!(
-        out.starts_with("check: the second programs cannot be built\n"),
+        parted(&out)
+            .1
+            .starts_with("check: the second programs cannot be built\n"),
         "{out}"
     );
 }
@@ -147,7 +198,7 @@ fn what_cannot_be_compared_fails() {
 fn nothing_is_compared_where_a_proof_fails() {
     let place = Place::fresh();
     fs::write(place.kit("fault"), "").unwrap();
-    place.assert_shell("./check", 1, "1 passed, 2 failed\n", "");
+    assert_rest(&place, "./check", 1, "1 passed, 2 failed\n");
 }
 
 #[test]
@@ -156,9 +207,13 @@ fn what_was_built_before_a_proof_failed_is_compared() {
     fs::write(place.kit("fault"), "bridge\n").unwrap();
     let last = "1 passed, 2 failed\n";
     let (status, out, _) = place.shell("./check");
-    let told = comparisons(out.strip_suffix(last).unwrap());
+    let (_, rest) = parted(&out);
+    let told = comparisons(rest.strip_suffix(last).unwrap());
     assert_eq!((status, told.len()), (1, 1), "{out}");
-    assert!(told[0].0.contains(" captures ") && agrees(told[0].1), "{out}");
+    assert!(
+        told[0].0.contains(" captures ") && agrees(told[0].1),
+        "{out}"
+    );
     let wrong = place.kit("programs/desk");
     fs::remove_file(&wrong).unwrap();
     symlink(RIG, &wrong).unwrap();
@@ -217,96 +272,5 @@ fn a_comparison_that_runs_ends_with_the_check() {
         fs::write(&path, "#!/bin/sh\nwhile sleep 0.1; do :; done\n").unwrap();
         place.shell("chmod +x \"$KIT/second/compare\"");
         assert_ends(&place, "tests/compare", signal, number);
-    }
-}
-
-/// Stored runs that are those of the programs here, and a second port of two lines.
-fn stored_runs(place: &Place) {
-    let (status, ..) = place.shell(
-        "mkdir -p second/port/src second/wrong second/programs/src second/tools second/kit
-         printf 'right\\nof the other\\n' >second/port/src/lib.rs; : >second/Cargo.toml
-         for name in bridge rig desk; do
-           printf '\\0\\0\\0' >crates/$name/stdin
-           \"$KIT/second/$name\" <crates/$name/stdin >crates/$name/stdout
-         done",
-    );
-    assert_eq!(status, 0);
-}
-
-fn edit(place: &Place, name: &str, pairs: &str) {
-    let path = place.root().join("second/wrong").join(name);
-    let text = format!("# A wrong port.\nfile: port/src/lib.rs\n{pairs}");
-    fs::write(path.with_extension("edit"), text).unwrap();
-}
-
-#[test]
-fn a_wrong_port_must_be_seen() {
-    let place = Place::fresh();
-    stored_runs(&place);
-    edit(&place, "a", "old: right\nnew: wrong & all\n");
-    edit(&place, "b", "old: other\nnew: wrong\nold: right\nnew:\n");
-    let seen = "wrong: a.edit: seen by bridge\nwrong: b.edit: seen by bridge\n";
-    let last = "2 wrong ports, all seen\n";
-    place.assert_shell("scripts/wrong", 0, &format!("{seen}{last}"), "");
-    for (pairs, why) in [
-        (
-            "old: other\nnew: another\n",
-            "NOT SEEN: all programs print what is stored",
-        ),
-        (
-            "old: left\nnew: wrong\n",
-            "BAD EDIT: 'left' is not in port/src/lib.rs",
-        ),
-        (
-            "old: t\nnew: wrong\n",
-            "BAD EDIT: 't' is in port/src/lib.rs more than once",
-        ),
-        ("old: right\n", "BAD EDIT: it changes nothing"),
-        (
-            "new: wrong\n",
-            "BAD EDIT: no file or no text is named to be changed",
-        ),
-        (
-            "old: right\nnew: broken\n",
-            "BAD EDIT: cannot be built: error: it is broken",
-        ),
-    ] {
-        edit(&place, "c", pairs);
-        let last = "3 wrong ports, 1 not seen: c.edit\n";
-        let printed = format!("{seen}wrong: c.edit: {why}\n{last}");
-        place.assert_shell("scripts/wrong", 1, &printed, "");
-    }
-}
-
-#[test]
-fn stored_runs_that_are_not_the_programs_show_nothing() {
-    let place = Place::fresh();
-    stored_runs(&place);
-    let told =
-        "wrong: without an edit: rig: the stored runs are not those of the second programs\n";
-    place.assert_shell("echo >>crates/rig/stdout; scripts/wrong", 1, told, "");
-}
-
-#[test]
-fn all_edits_are_tried_if_they_are_asked_for() {
-    let place = Place::fresh();
-    for edit in ["low/must-fail/a", "low/tried/b", "mid/tried/c"] {
-        let file = place.root().join("crates").join(edit);
-        fs::create_dir_all(file.parent().unwrap()).unwrap();
-        fs::write(file.with_extension("edit"), "").unwrap();
-    }
-    let (status, out, err) = place.shell("./check");
-    assert_eq!((status, err.as_str()), (0, ""));
-    assert!(out.ends_with(LAST), "{out}");
-    stored_runs(&place);
-    edit(&place, "a", "old: right\nnew: wrong\n");
-    let others = "crates/low/must-fail/b.edit\ncrates/mid/must-fail/c.edit\n\
-                  wrong: a.edit: seen by bridge\n1 wrong ports, all seen\n";
-    let (status, out, err) = place.shell("./check --all");
-    assert_eq!((status, err.as_str()), (0, ""));
-    assert!(out.ends_with(&format!("{LAST}{others}")), "{out}");
-    for words in ["--al", "--all --all", "-h"] {
-        let usage = "check: usage: ./check [--all]\n";
-        place.assert_shell(&format!("./check {words}"), 2, "", usage);
     }
 }

@@ -92,7 +92,7 @@ fn files(folder: &Path, found: &mut Vec<(PathBuf, String)>) {
     for entry in fs::read_dir(folder).unwrap() {
         let path = entry.unwrap().path();
         let name = path.file_name().unwrap().to_string_lossy();
-        if name == "target" || name == ".git" {
+        if ["target", "out", ".git"].contains(&&*name) {
             continue;
         }
         if path.is_dir() {

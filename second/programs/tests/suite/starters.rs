@@ -6,7 +6,7 @@ use std::os::unix::net::UnixListener;
 use std::os::unix::process::ExitStatusExt;
 use std::time::{Duration, Instant};
 
-use crate::toolchain::{line, Place, ANSWERS};
+use crate::place::{line, Place, ANSWERS};
 
 #[test]
 fn programs_start_from_anywhere() {

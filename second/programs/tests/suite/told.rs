@@ -12,7 +12,7 @@ use std::{env, fs, iter};
 
 use kit::files::ROOT;
 
-use crate::toolchain::Place;
+use crate::place::Place;
 
 /// The documents whose examples are run.
 const DOCUMENTS: &[&str] = &["README.md", "docs/HOST.md"];
@@ -125,17 +125,24 @@ fn checked(document: &str) -> Result<Vec<Example>, String> {
     }
 }
 
-/// The repository but for what is built in it.
-fn whole() -> Vec<PathBuf> {
-    let root = fs::read_dir(ROOT)
-        .unwrap()
-        .map(|entry| entry.unwrap().path());
-    let left_out = |path: &PathBuf| {
-        [".git", "target", "second"]
-            .iter()
-            .any(|n| path.ends_with(n))
-    };
-    root.filter(|path| !left_out(path)).collect()
+/// What is in a folder of the repository but for what is built there.
+fn parts(folder: &str) -> Vec<PathBuf> {
+    let entries = fs::read_dir(format!("{ROOT}/{folder}")).unwrap();
+    let left_out = [".git", "target", "second", "crates", "out"];
+    let entries = entries.map(|entry| entry.unwrap().path());
+    let kept = |path: &PathBuf| !left_out.iter().any(|name| path.ends_with(name));
+    entries.filter(kept).collect()
+}
+
+/// A copy of the repository but for what is built in it.
+fn whole() -> Place {
+    let place = Place::with(&parts(""));
+    for folder in parts("crates") {
+        let name = folder.file_name().unwrap().to_str().unwrap();
+        let folder = format!("crates/{name}");
+        place.copy(&parts(&folder), &folder);
+    }
+    place
 }
 
 /// Runs examples; what is wrong with the first that is.
@@ -168,7 +175,7 @@ fn examples_print_what_the_documents_tell() {
     for document in DOCUMENTS {
         let text = fs::read_to_string(Path::new(ROOT).join(document)).unwrap();
         let examples = checked(&text).unwrap_or_else(|why| panic!("{document}, {why}"));
-        let run = run(&Place::with(&whole()), &examples);
+        let run = run(&whole(), &examples);
         run.unwrap_or_else(|why| panic!("{document}, {why}"));
     }
 }
