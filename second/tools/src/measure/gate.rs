@@ -1,166 +1,107 @@
-//! The time that the gate took, and what took it, from the lines that it printed.
+//! The time that the gate took, and what it did in that time, from the lines that it printed.
 
-use std::cmp::Reverse;
 use std::fmt;
 
-/// How many crates are named among those that took longest.
-const DEAREST: usize = 3;
-
-/// What the gate did for a crate.
-#[derive(Debug, Default, PartialEq, Eq)]
-pub struct Part {
-    /// The crate.
-    pub name: String,
-    /// Seconds in which it was proved and, if it is a program, run.
-    pub check: u64,
-    /// How many edits of it were refused.
-    pub edits: u64,
-    /// Seconds that these took.
-    pub edits_took: u64,
-}
-
-impl Part {
-    /// All its seconds.
-    pub fn seconds(&self) -> u64 {
-        self.check + self.edits_took
-    }
-}
+/// What a gate ends its line `rt: ok` with that has taken nothing from an earlier run.
+const ALL: &str = "; every proof and must-fail edit was done in this run";
+/// What stands ahead of that, behind a number, where edits could not be made.
+const BAD: &str = " bad";
 
 /// What a gate did that has passed.
 #[derive(Debug, PartialEq)]
 pub struct Gate {
     /// How many crates it proved.
-    pub proved: u64,
-    /// The crates, the one that took longest first.
-    pub parts: Vec<Part>,
-    /// The sum of the crates.
-    pub all: Part,
+    pub crates: usize,
+    /// Of how many of them it proved the tests too.
+    pub tests: usize,
+    /// How many edits were refused.
+    pub edits: usize,
     /// Seconds from its start to its end, where `time` has told them.
     pub whole: Option<f64>,
 }
 
 impl Gate {
-    /// Reads what a gate printed. Each thing that passed has a line with its seconds. Where one is
-    /// missing the log is not whole, or of a run that did not start from nothing.
+    /// Reads what a gate printed. Each thing that passed has a line. Where one is missing the log is
+    /// not whole, and a run that took proofs from an earlier one tells nothing of the time that all
+    /// of them take.
     pub fn read(log: &str) -> Result<Gate, String> {
         let passed = log.lines().rev().find_map(passed);
         let passed = passed.ok_or("it has no line 'N passed, 0 failed'")?;
-        let deeds: Vec<Deed> = log.lines().filter_map(Deed::read).collect();
-        let proved = deeds.iter().filter(|deed| deed.kind == Kind::Proved);
-        let proved = proved.count() as u64;
-        let mut parts = parts(&deeds);
-        let all = sum(&parts);
-        let lines = proved + all.edits;
-        if lines != passed {
-            let why = format!("it says that {passed} passed, and has the seconds of {lines}");
-            return Err(why);
+        let ok = log.lines().rev().find(|line| line.starts_with("rt: ok"));
+        let ok = ok.ok_or("it has no line 'rt: ok'")?;
+        let told = ok.strip_suffix(ALL);
+        let told = told.ok_or("it says that not all was done in this run")?;
+        if told.ends_with(BAD) {
+            return Err("it says that edits are bad".into());
         }
-        if all.seconds() == 0 {
-            return Err("it has no second that was used".into());
-        }
-        parts.sort_by_key(|part| Reverse(part.seconds()));
-        Ok(Gate {
-            proved,
-            parts,
-            all,
+        let count = |deed| log.lines().filter(|line| Deed::read(line) == deed).count();
+        let gate = Gate {
+            crates: count(Some(Deed::Proved)),
+            tests: count(Some(Deed::ProvedTests)),
+            edits: count(Some(Deed::Refused)),
             whole: log.lines().rev().find_map(whole),
-        })
+        };
+        let lines = gate.crates + gate.edits;
+        match lines == passed {
+            true => Ok(gate),
+            false => Err(format!(
+                "it says that {passed} passed, and has the lines of {lines}"
+            )),
+        }
     }
 }
 
 impl fmt::Display for Gate {
     fn fmt(&self, f: &mut fmt::Formatter) -> fmt::Result {
         let Gate {
-            proved, all, parts, ..
+            crates,
+            tests,
+            edits,
+            ..
         } = self;
-        let share = |seconds: u64| seconds as f64 / all.seconds() as f64;
         write!(
             f,
-            "of {} seconds of work {proved} proofs {:.2}, {} edits {:.2}; dearest crates ",
-            all.seconds(),
-            share(all.check),
-            all.edits,
-            share(all.edits_took)
-        )?;
-        let dearest = parts.iter().take(DEAREST);
-        let dearest = dearest.map(|part| format!("{} {:.2}", part.name, share(part.seconds())));
-        f.write_str(&dearest.collect::<Vec<_>>().join(", "))
+            "{crates} crates proved, {tests} of them with tests, and {edits} edits refused"
+        )
     }
 }
 
-/// A line that tells how long something took.
-struct Deed<'a> {
-    name: &'a str,
-    kind: Kind,
-    seconds: u64,
-}
-
+/// What a line tells that was done.
 #[derive(Clone, Copy, PartialEq, Eq)]
-enum Kind {
+enum Deed {
     Proved,
-    Ran,
+    ProvedTests,
     Refused,
 }
 
-impl<'a> Deed<'a> {
+impl Deed {
     /// Reads a line; none if it tells something else.
-    fn read(line: &'a str) -> Option<Deed<'a>> {
-        let line = line.strip_prefix("rt: ")?.strip_suffix(" s)")?;
-        let (line, seconds) = line.rsplit_once([' ', '('])?;
-        let seconds = seconds.parse::<u32>().ok()?.into();
-        let deed = |name, kind| {
-            Some(Deed {
-                name,
-                kind,
-                seconds,
-            })
-        };
+    fn read(line: &str) -> Option<Deed> {
+        let line = line.strip_prefix("rt: ")?;
         if let Some(edit) = line.strip_prefix("must-fail ") {
-            let (name, told) = edit.split_once('/')?;
-            let refused = told.contains(": refused, as it must be ");
-            return deed(name, Kind::Refused).filter(|_| refused);
+            let (_, told) = edit.split_once(": ")?;
+            return told
+                .starts_with("refused, as it must be")
+                .then_some(Deed::Refused);
         }
-        match line.trim_end().split_once(' ')? {
-            (name, "proved") => deed(name, Kind::Proved),
-            (name, told) if told.starts_with("ran") => deed(name, Kind::Ran),
+        match line.split_once(' ')? {
+            (name, "proved") => is_name(name).then_some(Deed::Proved),
+            (name, "its tests are proved") => {
+                is_name(name.strip_suffix(':')?).then_some(Deed::ProvedTests)
+            }
             _ => None,
         }
     }
 }
 
-fn parts(deeds: &[Deed]) -> Vec<Part> {
-    let mut parts: Vec<Part> = Vec::new();
-    for deed in deeds {
-        let known = parts.iter().position(|part| part.name == deed.name);
-        let place = known.unwrap_or(parts.len());
-        if place == parts.len() {
-            parts.push(Part {
-                name: deed.name.into(),
-                ..Part::default()
-            });
-        }
-        let part = &mut parts[place];
-        if deed.kind == Kind::Refused {
-            part.edits += 1;
-            part.edits_took += deed.seconds;
-        } else {
-            part.check += deed.seconds;
-        }
-    }
-    parts
-}
-
-fn sum(parts: &[Part]) -> Part {
-    Part {
-        name: "all crates".into(),
-        check: parts.iter().map(|part| part.check).sum(),
-        edits: parts.iter().map(|part| part.edits).sum(),
-        edits_took: parts.iter().map(|part| part.edits_took).sum(),
-    }
+/// Whether a word can name a crate.
+fn is_name(word: &str) -> bool {
+    let letter = |c: char| c.is_ascii_alphanumeric() || c == '_';
+    !word.is_empty() && word.chars().all(letter)
 }
 
 /// How many things passed, from the last line of a gate where none failed.
-fn passed(line: &str) -> Option<u64> {
+fn passed(line: &str) -> Option<usize> {
     line.strip_suffix(" passed, 0 failed")?.parse().ok()
 }
 

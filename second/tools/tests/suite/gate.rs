@@ -1,21 +1,28 @@
 //! The gate's lines, as `measure` reads them.
 
-use tools::measure::gate::{Gate, Part};
+use tools::measure::gate::Gate;
 
 /// What a gate prints that has proved a library and a program and tried three edits, with other
 /// lines around.
 pub const LOG: &str = "\
 test result: ok. 135 passed; 0 failed; 0 ignored; 0 measured; 0 filtered out; finished in 2.08s
+== octets
 fn octets::fill: proved
 logic=proved functions=9 sum=064da1ca440f63e7
-rt: octets proved (6 s)
+rt: octets proved
+rt: octets: trying its must-fail edits (2)
 axioms libc: libc::read, libc::write (2 of the 50 declared)
-rt: bridge proved (22 s)
-rt: must-fail octets/high_last: refused, as it must be (first at proofs/put16/Proof.antt:86:5; 8 s)
-rt: must-fail octets/one_more: refused, as it must be (3 s)
-rt: must-fail bridge/proved: refused, as it must be (first at proofs/serve/Proof.antt:23:28; 30 s)
-rt: bridge ran as nobody, and wrote what its file 'stdout' has (1 s)
-rt: ok, 2 crates proved, 3 must-fail edits refused
+rt: bridge proved
+== bridge: its tests
+rt: bridge: its tests are proved
+rt: must-fail octets/high_last.edit: refused, as it must be: ./proofs/put16/Answers.antt:86:5: error: no
+rt: must-fail octets/one_more.edit: refused, as it must be
+rt: must-fail bridge/proved.edit: refused, as it must be (only by a limit of the prover): ./proofs/serve/Answers.antt:23:28: error: no
+rt: bridge ran, and wrote what its file stdout has
+rt: bridge ran (built by Rattle's own compiler), and wrote what its file stdout has
+test result: ok. 1 passed; 0 failed; 0 ignored; 0 filtered out
+rt: bridge: its tests passed
+rt: ok; handles allowed: none; must-fail edits: 3 refused, 1 of them only by a limit; every proof and must-fail edit was done in this run
 5 passed, 0 failed
 
 real\t1m30.500s
@@ -23,41 +30,17 @@ user\t2m5.743s
 sys\t0m34.754s
 ";
 
-fn part(name: &str, check: u64, edits: u64, edits_took: u64) -> Part {
-    Part {
-        name: name.into(),
-        check,
-        edits,
-        edits_took,
-    }
-}
-
 #[test]
-fn seconds_are_summed_by_crate() {
-    let gate = Gate::read(LOG).unwrap();
-    assert_eq!(gate.proved, 2);
-    // The one that took longest comes first.
-    let parts = [part("bridge", 23, 1, 30), part("octets", 6, 2, 11)];
-    assert_eq!(gate.parts, parts);
-    assert_eq!(gate.all, part("all crates", 29, 3, 41));
-    assert_eq!((gate.all.seconds(), gate.parts[0].seconds()), (70, 53));
-    assert_eq!(gate.whole, Some(90.5));
-    let told = "of 70 seconds of work 2 proofs 0.41, 3 edits 0.59; dearest crates bridge 0.76, octets 0.24";
-    assert_eq!(gate.to_string(), told);
-}
-
-#[test]
-fn the_three_dearest_crates_are_named() {
-    let crates = "\
-rt: table proved (10 s)
-rt: delay proved (40 s)
-rt: input proved (20 s)
-rt: reply proved (30 s)
-4 passed, 0 failed
-";
-    let told = "of 100 seconds of work 4 proofs 1.00, 0 edits 0.00; \
-                dearest crates delay 0.40, reply 0.30, input 0.20";
-    assert_eq!(Gate::read(crates).unwrap().to_string(), told);
+fn what_was_done_is_counted() {
+    let expected = Gate {
+        crates: 2,
+        tests: 1,
+        edits: 3,
+        whole: Some(90.5),
+    };
+    assert_eq!(Gate::read(LOG), Ok(expected));
+    let told = "2 crates proved, 1 of them with tests, and 3 edits refused";
+    assert_eq!(Gate::read(LOG).unwrap().to_string(), told);
 }
 
 #[test]
@@ -86,29 +69,47 @@ fn logs_of_something_else_are_refused() {
     assert_eq!(refused(""), no_end);
     assert_eq!(refused(&LOG.replace("5 passed, 0", "4 passed, 1")), no_end);
     assert_eq!(refused(&LOG.replace("5 passed, 0 failed", "")), no_end);
-    let fewer = "it says that 5 passed, and has the seconds of 4";
+    let no_ok = "it has no line 'rt: ok'";
+    assert_eq!(refused(&LOG.replace("rt: ok", "rt: FAILED")), no_ok);
+    let fewer = "it says that 5 passed, and has the lines of 4";
     for (old, new) in [
+        ("rt: octets proved", "rt: octets NOT PROVED"),
         (
-            "octets proved (6 s)",
-            "octets proved (unchanged since it was last proved)",
+            "rt: octets proved",
+            "rt: octets is kept: an earlier run on this machine proved the same files over the same libraries",
         ),
-        ("octets proved (6 s)", "octets NOT PROVED (exit 1, 6 s)"),
-        ("octets proved (6 s)", "octets proved (six s)"),
+        ("rt: octets proved", "rt: octets: its tests are proved"),
+        ("rt: octets proved", "rt: proved"),
         (
-            "octets proved (6 s)",
-            "octets proved, and its run FAILED (6 s)",
+            "one_more.edit: refused, as it must be",
+            "one_more.edit: NOT REFUSED: it is still proved",
         ),
         (
-            "one_more: refused, as it must be (3 s)",
-            "one_more: NOT REFUSED: it is (3 s)",
+            "one_more.edit: refused, as it must be",
+            "one_more.edit: BAD EDIT: it changes nothing",
         ),
         ("rt: bridge proved", "bridge proved"),
     ] {
         assert!(LOG.contains(old), "{old}");
         assert_eq!(refused(&LOG.replace(old, new)), fewer, "{new}");
     }
-    let twice = "it says that 5 passed, and has the seconds of 10";
+    let twice = "it says that 5 passed, and has the lines of 10";
     assert_eq!(refused(&[LOG, LOG].concat()), twice);
-    let idle = "rt: meaning proved (0 s)\n1 passed, 0 failed\n";
-    assert_eq!(refused(idle), "it has no second that was used");
+}
+
+#[test]
+fn a_log_of_a_run_that_did_not_do_all_is_refused() {
+    let all = "every proof and must-fail edit was done in this run";
+    for some in [
+        "done in this run: 2 of the 3 proofs (of crates and of their tests) and 3 of the 3 must-fail edits; the others are kept from earlier runs of the same files on this machine",
+        "done in this run: 0 of the 3 proofs (of crates and of their tests); the others are kept",
+        "",
+    ] {
+        let log = LOG.replace(all, some);
+        let why = "it says that not all was done in this run";
+        assert_eq!(Gate::read(&log).unwrap_err(), why, "{some}");
+    }
+    let log = LOG.replace(&format!("; {all}"), &format!(", 1 bad; {all}"));
+    let why = "it says that edits are bad";
+    assert_eq!(Gate::read(&log).unwrap_err(), why);
 }

@@ -1,8 +1,9 @@
 //! What is over its limit: it is marked in the table and the status is 1, also that of `./measure`.
 
-use std::path::{Path, PathBuf};
+use std::os::unix::fs::symlink;
+use std::path::PathBuf;
 use std::process::{Command, Output};
-use std::{env, fs};
+use std::{env, fs, process};
 
 use kit::files::ROOT;
 use tools::measure::table::{Figure, Row, Table};
@@ -100,28 +101,37 @@ fn what_is_over_its_limit_is_marked_and_gives_status_1() {
     }
 }
 
-/// A folder in which `./measure` finds all that it needs, but for what stands in.
-fn repository(name: &str) -> PathBuf {
-    let folder = Path::new(env!("CARGO_TARGET_TMPDIR")).join(name);
-    let release = folder.join("second/target/release");
-    for part in [
-        "crates",
-        "target/rlib",
-        "target/stamp",
-        "second/target/release",
-        "scripts",
-    ] {
-        fs::create_dir_all(folder.join(part)).unwrap();
+/// A folder in which `./measure` finds all that it needs, but for what stands in. It lies outside the
+/// repository, in which only one `crates.txt` may stand; its programs are built.
+struct Folder(PathBuf);
+
+impl Drop for Folder {
+    fn drop(&mut self) {
+        fs::remove_dir_all(&self.0).ok();
     }
-    fs::write(folder.join("crates.txt"), "").unwrap();
-    for file in ["measure", "scripts/toolchain", "toolchain.txt"] {
-        fs::copy(format!("{ROOT}/{file}"), folder.join(file)).unwrap();
+}
+
+impl Folder {
+    fn new(name: &str) -> Folder {
+        let base = format!("Bightmoor's measure {} {name}", process::id());
+        let folder = env::temp_dir().join(base);
+        let release = folder.join("second/target/release");
+        for part in ["crates/endpoint/src", "second/target/release", "scripts"] {
+            fs::create_dir_all(folder.join(part)).unwrap();
+        }
+        fs::write(folder.join("crates.txt"), "endpoint:\n").unwrap();
+        for file in ["measure", "scripts/toolchain", "toolchain.txt"] {
+            fs::copy(format!("{ROOT}/{file}"), folder.join(file)).unwrap();
+        }
+        for name in ["bridge", "desk", "rig"] {
+            symlink(format!("{TOOLS}/cargo"), folder.join(name)).unwrap();
+        }
+        fs::copy(MEASURE, release.join("measure")).unwrap();
+        fs::copy(*BRIDGE, release.join("bridge")).unwrap();
+        fs::copy(*DESK, release.join("desk")).unwrap();
+        fs::copy(*RIG, release.join("rig")).unwrap();
+        Folder(folder)
     }
-    fs::copy(MEASURE, release.join("measure")).unwrap();
-    fs::copy(*BRIDGE, release.join("bridge")).unwrap();
-    fs::copy(*DESK, release.join("desk")).unwrap();
-    fs::copy(*RIG, release.join("rig")).unwrap();
-    folder
 }
 
 /// What `./measure` says before it measures.
@@ -133,7 +143,8 @@ measure: measures, which takes some minutes
 /// Runs `./measure` with a bridge, a desk and a rig that are not compiled; what it says before is taken off.
 /// What stands in for `rt` makes a library of the listing, and what stands in for `cargo` builds nothing.
 fn script(name: &str, listing: &str) -> Output {
-    let mut command = Command::new(repository(name).join("measure"));
+    let folder = Folder::new(name);
+    let mut command = Command::new(folder.0.join("measure"));
     command.args(["silent"; 3].map(|name| format!("{TOOLS}/{name}")));
     command.env("PATH", path());
     let mut output = command.env("LISTING", listing).output().unwrap();

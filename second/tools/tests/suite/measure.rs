@@ -118,7 +118,7 @@ fn one_table_has_all_that_is_asked_for() {
 stack of the message call; 112 octets; 2612 octets; ; limit 2100 for the working copy and 512 beside it; call 72, part::deep 40
 stack of the other calls, at most; 40 octets; 256 octets; ; limit 256 for each; part::deep 40; part::deep 40
 code of the five calls; 59 octets; ; ; all sections of text for x86-64, without memcpy, memmove and memset; constants take 16 octets more
-time of the gate to ten minutes; 0.15; 1.00; ; 90 seconds; of 70 seconds of work 2 proofs 0.41, 3 edits 0.59; dearest crates bridge 0.76, octets 0.24";
+time of the gate to ten minutes; 0.15; 1.00; ; 90 seconds; 2 crates proved, 1 of them with tests, and 3 edits refused";
     assert_eq!(rest.join("\n"), expected);
 }
 
@@ -160,7 +160,7 @@ fn what_is_not_asked_for_or_not_told_is_left_out() {
     let [what, measured, limit, each, from] = rows(&output)[STREAMS.len()];
     let untimed = ["time of the gate to ten minutes", "-", "1.00", ""];
     assert_eq!([what, measured, limit, each], untimed);
-    let why = "not measured: the log has no line 'real' of 'time'; of 70 seconds of work 2 ";
+    let why = "not measured: the log has no line 'real' of 'time'; 2 crates proved, ";
     assert!(from.starts_with(why), "{from}");
 }
 
@@ -299,7 +299,7 @@ fn files_that_tell_nothing() {
     let gate =
         |log: &str| given_up(&run(MEASURE, &["--gate", log, *BRIDGE, *BRIDGE], &[])).to_owned();
     assert!(gate("nowhere.log").starts_with("cannot read \"nowhere.log\": "));
-    let log = file("told.log", b"\xFFrt: octets proved (6 s)\n");
+    let log = file("told.log", b"\xFFrt: octets proved\n");
     let why = format!(
         "{log:?} is not what a gate printed that passed: it has no line 'N passed, 0 failed'"
     );
