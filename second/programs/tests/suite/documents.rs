@@ -8,6 +8,10 @@ use kit::files::ROOT;
 /// Words that may stand before a name where it is declared.
 const DECLARING: &str = "pub extern \"C\" fn struct enum const abbrev unfoldable record data";
 
+/// Words that may stand before the name of a definition in specs, and what is declared there otherwise.
+const HEADS: [&str; 4] = ["abbrev", "unfoldable", "opaque", "pub"];
+const OTHERS: [&str; 4] = ["data", "record", "mod", "use"];
+
 /// Names in backticks, joined by commas or `and`: the word before them, they, the text after them.
 type Group<'a> = (&'a str, Vec<&'a str>, &'a str);
 
@@ -156,14 +160,15 @@ fn names_in_the_documents_stand_where_they_are_placed() {
     }
 }
 
-/// The names of the definitions in some text of specs; types are none.
+/// The names of the definitions in some text of specs; types are none, nor are modules.
 fn definitions(specs: &str) -> Vec<&str> {
     let declared = specs.lines().filter_map(|line| {
-        let heads = ["abbrev pub ", "unfoldable pub ", "pub "];
-        let line = heads.iter().find_map(|head| line.strip_prefix(head))?;
-        Some(line.split_once(" : ")?.0)
+        let words: Vec<&str> = line.split(' ').collect();
+        let heads = words.iter().take_while(|word| HEADS.contains(word)).count();
+        let public = words[..heads].contains(&"pub");
+        public.then(|| words.get(heads).copied())?
     });
-    declared.filter(|name| !name.contains(' ')).collect()
+    declared.filter(|name| !OTHERS.contains(name)).collect()
 }
 
 /// The names that the table of LAWS.md with the head `| Definitions | Held by |` gives for a file.
@@ -198,9 +203,9 @@ fn each_definition_has_a_law_that_holds_it() {
 
 #[test]
 fn a_definition_that_no_row_has_is_seen() {
-    let specs = "pub data Op : Type 0 where\nabbrev pub a : ℕ\na = 1\nunfoldable pub b : ℕ → ℕ\npub record R : Type 0 where\n  pub c : ℕ\n";
+    let specs = "pub mod Wire\npub data Op : Type 0 where\nabbrev pub a : ℕ\na = 1\nunfoldable pub b : ℕ → ℕ\npub record R : Type 0 where\n  pub c : ℕ\npub d {n : ℕ} : ℕ\nunfoldable e : ℕ\n-- pub f : ℕ\n";
     let laws = "| Definitions | Held by |\n|---|---|\n| Octets: `a`, `c` | law `x` in Y |\n| Table: `b` | law `z` in Y |\n\n| Octets: `d` | |";
-    assert_eq!(definitions(specs), ["a", "b"]);
+    assert_eq!(definitions(specs), ["a", "b", "d"]);
     assert_eq!(held(laws, "Octets"), ["a", "c"]);
     assert_eq!(held(laws, "Table"), ["b"]);
 }

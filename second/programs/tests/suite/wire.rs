@@ -16,19 +16,11 @@ fn value(digits: &str) -> u64 {
         .unwrap()
 }
 
-/// `typeNotifyAck` as `TYPE_NOTIFY_ACK`.
-fn upper(name: &str) -> String {
-    let parted = name.chars().flat_map(|c| {
-        let gap = c.is_ascii_uppercase().then_some('_');
-        gap.into_iter().chain([c.to_ascii_uppercase()])
-    });
-    parted.collect()
-}
-
 /// The names of the definitions, as the code writes them: `name = number` on a line of its own.
 fn defined(specs: &str) -> BTreeMap<String, u64> {
     let lines = specs.lines().filter_map(|line| line.split_once(" = "));
-    lines.map(|(n, v)| (upper(n), value(v))).collect()
+    let pairs = lines.map(|(name, number)| (name.to_ascii_uppercase(), value(number)));
+    pairs.collect()
 }
 
 /// The constants of the code that are a number.
@@ -54,7 +46,7 @@ fn the_code_has_every_name_of_the_definitions_with_its_number() {
 
 #[test]
 fn another_number_or_a_missing_name_is_seen() {
-    let defined = defined("abbrev pub typeNotifyAck : ℕ\ntypeNotifyAck = 0x0A\n");
+    let defined = defined("abbrev pub type_notify_ack : ℕ\ntype_notify_ack = 0x0A\n");
     let code = constants("pub const TYPE_NOTIFY_ACK: u8 = 0x0A;\npub const MORE: usize = 7;\n");
     assert_eq!(defined["TYPE_NOTIFY_ACK"], 10);
     assert_eq!((code["TYPE_NOTIFY_ACK"], code["MORE"]), (10, 7));
