@@ -2,43 +2,40 @@
 
 use std::fmt;
 
-/// What a gate ends its line `rt: ok` with that has taken nothing from an earlier run.
+/// What the line `rt: ok` of a gate ends with that has taken nothing from an earlier run.
 const ALL: &str = "; every proof and must-fail edit was done in this run";
-/// What stands ahead of that, behind a number, where edits could not be made.
+/// What stands there otherwise, ahead of what was done, behind which there is a semicolon.
+const SOME: &str = "; done in this run: ";
+/// What stands ahead of either, behind a number, where edits could not be made.
 const BAD: &str = " bad";
 
 /// What a gate did that has passed.
 #[derive(Debug, PartialEq)]
 pub struct Gate {
-    /// How many crates it proved.
+    /// How many crates are proved.
     pub crates: usize,
-    /// Of how many of them it proved the tests too.
+    /// How many of them have tests that passed.
     pub tests: usize,
     /// How many edits were refused.
     pub edits: usize,
+    /// How much of that was done in this run, in words, if an earlier one did the rest.
+    pub part: Option<String>,
     /// Seconds from its start to its end, where `time` has told them.
     pub whole: Option<f64>,
 }
 
 impl Gate {
     /// Reads what a gate printed. Each thing that passed has a line. Where one is missing the log is
-    /// not whole, and a run that took proofs from an earlier one tells nothing of the time that all
-    /// of them take.
+    /// not whole.
     pub fn read(log: &str) -> Result<Gate, String> {
         let passed = log.lines().rev().find_map(passed);
         let passed = passed.ok_or("it has no line 'N passed, 0 failed'")?;
-        let ok = log.lines().rev().find(|line| line.starts_with("rt: ok"));
-        let ok = ok.ok_or("it has no line 'rt: ok'")?;
-        let told = ok.strip_suffix(ALL);
-        let told = told.ok_or("it says that not all was done in this run")?;
-        if told.ends_with(BAD) {
-            return Err("it says that edits are bad".into());
-        }
         let count = |deed| log.lines().filter(|line| Deed::read(line) == deed).count();
         let gate = Gate {
             crates: count(Some(Deed::Proved)),
-            tests: count(Some(Deed::ProvedTests)),
+            tests: count(Some(Deed::Tested)),
             edits: count(Some(Deed::Refused)),
+            part: part(log)?,
             whole: log.lines().rev().find_map(whole),
         };
         let lines = gate.crates + gate.edits;
@@ -48,6 +45,21 @@ impl Gate {
                 "it says that {passed} passed, and has the lines of {lines}"
             )),
         }
+    }
+}
+
+/// How much was done in this run, if not all was. An error where it is not told, or edits are bad.
+fn part(log: &str) -> Result<Option<String>, String> {
+    let ok = log.lines().rev().find(|line| line.starts_with("rt: ok"));
+    let ok = ok.ok_or("it has no line 'rt: ok'")?;
+    let (told, part) = match (ok.strip_suffix(ALL), ok.split_once(SOME)) {
+        (Some(told), _) => (told, None),
+        (None, Some((told, rest))) => (told, rest.split(';').next()),
+        (None, None) => return Err("its line 'rt: ok' does not tell what was done".into()),
+    };
+    match told.ends_with(BAD) {
+        true => Err("it says that edits are bad".into()),
+        false => Ok(part.map(String::from)),
     }
 }
 
@@ -66,11 +78,11 @@ impl fmt::Display for Gate {
     }
 }
 
-/// What a line tells that was done.
+/// What a line tells of a thing that passed.
 #[derive(Clone, Copy, PartialEq, Eq)]
 enum Deed {
     Proved,
-    ProvedTests,
+    Tested,
     Refused,
 }
 
@@ -80,15 +92,15 @@ impl Deed {
         let line = line.strip_prefix("rt: ")?;
         if let Some(edit) = line.strip_prefix("must-fail ") {
             let (_, told) = edit.split_once(": ")?;
-            return told
-                .starts_with("refused, as it must be")
-                .then_some(Deed::Refused);
+            let refused = told.starts_with("refused, as it must be");
+            return refused.then_some(Deed::Refused);
         }
-        match line.split_once(' ')? {
-            (name, "proved") => is_name(name).then_some(Deed::Proved),
-            (name, "its tests are proved") => {
-                is_name(name.strip_suffix(':')?).then_some(Deed::ProvedTests)
-            }
+        let (name, told) = line.split_once(' ')?;
+        let tested = name.strip_suffix(':');
+        let proved = told == "proved" || told.starts_with("is kept: ");
+        match (tested, told) {
+            (Some(name), "its tests passed") if is_name(name) => Some(Deed::Tested),
+            (None, _) if proved && is_name(name) => Some(Deed::Proved),
             _ => None,
         }
     }

@@ -262,11 +262,13 @@ fn gate_row(path: &str) -> io::Result<Row> {
         let what = format!("{path:?} is not what a gate printed that passed: {why}");
         io::Error::other(what)
     })?;
-    let time = match gate.whole {
-        Some(seconds) => format!("{seconds:.0} seconds"),
-        None => "not measured: the log has no line 'real' of 'time'".into(),
+    let time = match (&gate.part, gate.whole) {
+        (Some(part), _) => format!("not measured: this run did {part}, an earlier one the others"),
+        (None, Some(seconds)) => format!("{seconds:.0} seconds"),
+        (None, None) => "not measured: the log has no line 'real' of 'time'".into(),
     };
-    let ratio = gate.whole.map(|seconds| seconds / GATE);
+    let whole = gate.whole.filter(|_| gate.part.is_none());
+    let ratio = whole.map(|seconds| seconds / GATE);
     Ok(Row::plain(
         "time of the gate to ten minutes",
         Figure::Ratio(ratio, 1.0),

@@ -36,6 +36,7 @@ fn what_was_done_is_counted() {
         crates: 2,
         tests: 1,
         edits: 3,
+        part: None,
         whole: Some(90.5),
     };
     assert_eq!(Gate::read(LOG), Ok(expected));
@@ -74,10 +75,6 @@ fn logs_of_something_else_are_refused() {
     let fewer = "it says that 5 passed, and has the lines of 4";
     for (old, new) in [
         ("rt: octets proved", "rt: octets NOT PROVED"),
-        (
-            "rt: octets proved",
-            "rt: octets is kept: an earlier run on this machine proved the same files over the same libraries",
-        ),
         ("rt: octets proved", "rt: octets: its tests are proved"),
         ("rt: octets proved", "rt: proved"),
         (
@@ -97,19 +94,37 @@ fn logs_of_something_else_are_refused() {
     assert_eq!(refused(&[LOG, LOG].concat()), twice);
 }
 
+/// What the line `rt: ok` says of what was done, where all was, and where only some of it was.
+const ALL: &str = "every proof and must-fail edit was done in this run";
+pub const PART: &str =
+    "1 of the 3 proofs (of crates and of their tests) and 0 of the 3 must-fail edits";
+
+/// A log of a run that took a crate, its tests and all edits from an earlier one.
+pub fn in_part() -> String {
+    let kept = "octets is kept: an earlier run on this machine proved the same files";
+    let told = format!("done in this run: {PART}; the others are kept from earlier runs");
+    let log = LOG.replace("octets proved", kept).replace(ALL, &told);
+    log.replace("rt: bridge: its tests are proved\n", "")
+}
+
 #[test]
-fn a_log_of_a_run_that_did_not_do_all_is_refused() {
-    let all = "every proof and must-fail edit was done in this run";
-    for some in [
-        "done in this run: 2 of the 3 proofs (of crates and of their tests) and 3 of the 3 must-fail edits; the others are kept from earlier runs of the same files on this machine",
-        "done in this run: 0 of the 3 proofs (of crates and of their tests); the others are kept",
-        "",
-    ] {
-        let log = LOG.replace(all, some);
-        let why = "it says that not all was done in this run";
-        assert_eq!(Gate::read(&log).unwrap_err(), why, "{some}");
+fn what_an_earlier_run_did_is_told() {
+    let gate = Gate::read(&in_part()).unwrap();
+    assert_eq!((gate.crates, gate.tests, gate.edits), (2, 1, 3));
+    assert_eq!(gate.part.as_deref(), Some(PART));
+    let untold = in_part().replace("done in this run", "done");
+    let why = "its line 'rt: ok' does not tell what was done";
+    assert_eq!(Gate::read(&untold).unwrap_err(), why);
+}
+
+#[test]
+fn bad_edits_are_refused() {
+    for log in [LOG.to_string(), in_part()] {
+        for told in [ALL, "done in this run"] {
+            let bad = log.replace(&format!("; {told}"), &format!(", 1 bad; {told}"));
+            let refused = Gate::read(&bad).map_err(|why| why == "it says that edits are bad");
+            assert_eq!(refused.is_err(), bad != log);
+            assert_ne!(refused, Err(false));
+        }
     }
-    let log = LOG.replace(&format!("; {all}"), &format!(", 1 bad; {all}"));
-    let why = "it says that edits are bad";
-    assert_eq!(Gate::read(&log).unwrap_err(), why);
 }

@@ -162,6 +162,12 @@ fn what_is_not_asked_for_or_not_told_is_left_out() {
     assert_eq!([what, measured, limit, each], untimed);
     let why = "not measured: the log has no line 'real' of 'time'; 2 crates proved, ";
     assert!(from.starts_with(why), "{from}");
+    let log = file("in_part.log", gate::in_part().as_bytes());
+    let output = run(MEASURE, &["--gate", &log, *BRIDGE, *BRIDGE, "10"], &[]);
+    let [what, measured, limit, each, from] = rows(&output)[STREAMS.len()];
+    assert_eq!([what, measured, limit, each], untimed);
+    let why = format!("not measured: this run did {}, an earlier one", gate::PART);
+    assert!(from.starts_with(&why), "{from}");
 }
 
 #[test]
