@@ -1,6 +1,7 @@
 -- The instructions of a script, taken one after another over the memory and the room that are lent.
 use Rattle.std.specs.Prelude.{ℕ, ◌≤◌, ◌≡◌, List, length, take}
-use Rattle.stdio.specs.Taking.{Piece, Program, Between, taken, Faulty as Taking-as-Faulty, Wanting}
+use Rattle.stdio.specs.Taking.{Piece, Program, Between, taken, Wanting}
+use Rattle.stdio.specs.Taking as pieces
 use Rattle.answers.specs.Answers.{Port}
 use Rattle.script.specs.Instructions.{Effect, body_right, effect}
 use Rattle.script.specs.Takes.{Lends}
@@ -27,5 +28,5 @@ port memory room lent from = record { state = record { memory = take lent.memory
 -- Every whole instruction has been taken, and there is room to read more; or all up to a faulty one have.
 abbrev pub Serves : List ℕ → Between Port → Served → List ℕ → List ℕ → Type 0
 Serves held p (Rest from lent) memory room = (taken instructions held p ≡ port memory room lent from) × (from ≤ length held) × Wanting instructions held from × Lends lent
-Serves held p Faulty memory room = Taking-as-Faulty instructions held (taken instructions held p).from
+Serves held p Faulty memory room = pieces.Faulty instructions held (taken instructions held p).from
 Serves held p Closed memory room = Unit {0}

@@ -4,13 +4,13 @@
 
 ghost use Rattle.std.specs.Prelude.{◌+◌, ◌≤◌, ◌<◌, ◌≡◌, length};
 ghost use Rattle.octets.specs.Writing.{Wrote};
-ghost use Rattle.text.specs.Lines.{digit as Lines·digit, hex, decimal, shown_octets, octets_line, line, long_decimal, lent_line, field, full_line, wide_decimal, wide_field, octet_field, open_line};
+ghost use Rattle.text.specs.Lines.{digit, hex, decimal, shown_octets, octets_line, line, long_decimal, lent_line, field, full_line, wide_decimal, wide_field, octet_field, open_line};
 
 // The character of a digit: 39 more for a letter, taken from all bits of an octet or from none. With a quotient by 10 or a
 // test, LLVM puts branches into the loop over it.
 fn digit(d: u8) -> u8
     requires { d < 16 }
-    ensures { result ≡ Lines·digit d }
+    ensures { result ≡ digit d }
 {
     d + 48 + ((d + 6) / 16 * 255 & 39)
 }

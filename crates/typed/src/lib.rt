@@ -4,7 +4,7 @@
 
 ghost use Rattle.std.specs.Prelude.{◌≤◌, ◌<◌, ◌≡◌, true, ◌∷◌, [], length};
 ghost use Rattle.typed.specs.Signs.{sign_of, decodes};
-ghost use Rattle.typed.specs.Forms.{paired as Forms·paired, form_after, completed_by, Starts, Small, Keeps, Stores, Takes};
+ghost use Rattle.typed.specs.Forms.{paired, form_after, completed_by, Starts, Small, Keeps, Stores, Takes};
 ghost use Rattle.typed.specs.Scanning.{whole_octets, Goes, Scans};
 
 // Octets that are kept of a line: one more than a message may have.
@@ -112,7 +112,7 @@ fn sign_of(c: u8) -> Sign
 
 // Two digits at a line's start.
 fn paired(h: u8, d: u8) -> Form
-    ensures { result ≡ Forms·paired h d }
+    ensures { result ≡ paired h d }
 {
     if h < 10 {
         if d < 10 {
