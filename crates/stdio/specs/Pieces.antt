@@ -26,7 +26,7 @@ Brought n at (Octets k) = (1 ≤ k) × (at + k ≤ n)
 Brought n at End = Unit {0}
 Brought n at Failed = Unit {0}
 
--- a read to a place leaves the octets before it; which octets it brings no contract can say
+-- a read to a place leaves the octets before it; which octets it brings no contract here says
 abbrev pub Reads : List ℕ → ℕ → Got → List ℕ → Type 0
 Reads block at r block' = (take at block' ≡ take at block) × Brought (length block) at r
 

@@ -58,7 +58,7 @@ pub fn write_cut(out: &mut [u8], at: usize) -> usize
     octets::append(out, at, b"cut\n")
 }
 
-// ---- what is written and read. What goes out and comes in no contract can say
+// ---- what is written and read. What goes out and comes in no contract here says
 
 // A line on standard error: a program's name, and what it cannot do. Where this cannot be written either, nobody is told.
 fn complain(errors: &mut impl Write, name: &[u8], what: &[u8]) {
