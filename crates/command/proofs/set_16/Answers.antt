@@ -37,22 +37,26 @@ returns-then-not-lists c =
 
 pub returns-then-size-gt-SHORT_MOST : goal.returns-then-size-gt-SHORT_MOST
 returns-then-size-gt-SHORT_MOST c =
+    let places = goal.at.returns-then-size-gt-SHORT_MOST c in
     let a = c.args in
-    set_over release16 a.m.now a.name _ _ c.place_of-k.ensures (listed (goal.at.returns-then-size-gt-SHORT_MOST c).Else-not-lists) (long_unsendable _ (omega (arith, counted (goal.at.returns-then-size-gt-SHORT_MOST c).After-place_of-k, c.if-size-gt-SHORT_MOST.true)))
+    set_over release16 a.m.now a.name _ _ c.place_of-k.ensures (listed places.Else-not-lists) (long_unsendable _ (omega (arith, counted places.After-place_of-k, c.if-size-gt-SHORT_MOST.true)))
 
 pub returns-then-spared-eq0 : goal.returns-then-spared-eq0
 returns-then-spared-eq0 c =
+    let places = goal.at.returns-then-spared-eq0 c in
     let a = c.args in
     let q = not_spared release16 _ (part a.list.now a.from a.size) (sym c.spared.ensures.0 ∙ c.if-spared-eq0.true) in
-    as_memory a.m.now a.name _ _ _ c.place_of-k.ensures (listed (goal.at.returns-then-spared-eq0 c).Else-not-lists) (fits (goal.at.returns-then-spared-eq0 c).Else-size-gt-SHORT_MOST) q c.set_full.ensures
+    as_memory a.m.now a.name _ _ _ c.place_of-k.ensures (listed places.Else-not-lists) (fits places.Else-size-gt-SHORT_MOST) q c.set_full.ensures
 
 pub returns-then-size-ne2 : goal.returns-then-size-ne2
 returns-then-size-ne2 c =
+    let places = goal.at.returns-then-size-ne2 c in
     let a = c.args in
-    set_unfit release16 a.m.now a.name _ _ c.place_of-k.ensures (listed (goal.at.returns-then-size-ne2 c).Else-not-lists) (fits (goal.at.returns-then-size-ne2 c).Else-size-gt-SHORT_MOST) (some-spared (goal.at.returns-then-size-ne2 c).Else-spared-eq0) (rw (counted (goal.at.returns-then-size-ne2 c).After-place_of-k) c.if-size-ne2.true)
+    set_unfit release16 a.m.now a.name _ _ c.place_of-k.ensures (listed places.Else-not-lists) (fits places.Else-size-gt-SHORT_MOST) (some-spared places.Else-spared-eq0) (rw (counted places.After-place_of-k) c.if-size-ne2.true)
 
 pub returns : goal.returns
 returns c =
+    let places = goal.at.returns c in
     let a = c.args in
-    let q = pair_spared release16 _ a.list.now a.from a.size (some-spared (goal.at.returns c).Else-spared-eq0) c.if-size-ne2.false c.requires.1 in
-    as_memory a.m.now a.name _ _ _ c.place_of-k.ensures (listed (goal.at.returns c).Else-not-lists) (fits (goal.at.returns c).Else-size-gt-SHORT_MOST) q c.set_full-2.ensures
+    let q = pair_spared release16 _ a.list.now a.from a.size (some-spared places.Else-spared-eq0) c.if-size-ne2.false c.requires.1 in
+    as_memory a.m.now a.name _ _ _ c.place_of-k.ensures (listed places.Else-not-lists) (fits places.Else-size-gt-SHORT_MOST) q c.set_full-2.ensures

@@ -25,8 +25,9 @@ returns-then-not-lists c =
 
 pub returns-then-not-by_controller : goal.returns-then-not-by_controller
 returns-then-not-by_controller c =
+    let places = goal.at.returns-then-not-by_controller c in
     let a = c.args in
-    set_foreign release18 a.m.now a.name _ _ c.place_of-k.ensures (listed (goal.at.returns-then-not-by_controller c).Else-not-lists) (controls (goal.at.returns-then-not-by_controller c).After-by_controller ∙ c.if-not-by_controller.true)
+    set_foreign release18 a.m.now a.name _ _ c.place_of-k.ensures (listed places.Else-not-lists) (controls places.After-by_controller ∙ c.if-not-by_controller.true)
 
 pub put_value-requires : goal.put_value-requires
 put_value-requires c =
@@ -34,12 +35,14 @@ put_value-requires c =
 
 pub returns-then-not-put_value : goal.returns-then-not-put_value
 returns-then-not-put_value c =
+    let places = goal.at.returns-then-not-put_value c in
     let a = c.args in
     let e = rw (part_is a.s.now a.from a.size) at c.put_value.ensures in
-    set-refused release18 a.m.now a.name _ _ c.place_of-k.ensures (listed (goal.at.returns-then-not-put_value c).Else-not-lists) (controls (goal.at.returns-then-not-put_value c).After-by_controller ∙ c.if-not-by_controller.false) (any_sendable _) e.0 e.1 (c.if-not-put_value.true)
+    set-refused release18 a.m.now a.name _ _ c.place_of-k.ensures (listed places.Else-not-lists) (controls places.After-by_controller ∙ c.if-not-by_controller.false) (any_sendable _) e.0 e.1 (c.if-not-put_value.true)
 
 pub returns : goal.returns
 returns c =
+    let places = goal.at.returns c in
     let a = c.args in
     let e = rw (part_is a.s.now a.from a.size) at c.put_value.ensures in
-    set-done release18 a.m.now a.name _ _ c.place_of-k.ensures (listed (goal.at.returns c).Else-not-lists) (controls (goal.at.returns c).After-by_controller ∙ c.if-not-by_controller.false) (any_sendable _) e.0 e.1 (c.if-not-put_value.false)
+    set-done release18 a.m.now a.name _ _ c.place_of-k.ensures (listed places.Else-not-lists) (controls places.After-by_controller ∙ c.if-not-by_controller.false) (any_sendable _) e.0 e.1 (c.if-not-put_value.false)

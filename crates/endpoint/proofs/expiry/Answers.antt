@@ -28,4 +28,5 @@ take_expiry-requires c = in_sound _ _ (rest_in _ (tested (goal.at.take_expiry-re
 pub returns : goal.returns
 unfolding gives gives_lent
 returns c =
-    gives_formed c.args.memory.now (tested (goal.at.returns c).Else-not-sound_form_b) take_expiry c.take_expiry.result c.take_expiry.new.memory [] c.take_expiry.auto.memory (c.take_expiry.ensures _ (rest_in _ (tested (goal.at.returns c).Else-not-sound_form_b)))
+    let places = goal.at.returns c in
+    gives_formed c.args.memory.now (tested places.Else-not-sound_form_b) take_expiry c.take_expiry.result c.take_expiry.new.memory [] c.take_expiry.auto.memory (c.take_expiry.ensures _ (rest_in _ (tested places.Else-not-sound_form_b)))

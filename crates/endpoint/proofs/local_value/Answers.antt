@@ -29,5 +29,6 @@ take_value-requires c = in_sound _ _ (rest_in _ (tested (goal.at.take_value-requ
 pub returns : goal.returns
 unfolding gives gives_lent
 returns c =
+    let places = goal.at.returns c in
     let a = c.args in
-    gives_formed a.memory.now (tested (goal.at.returns c).Else-not-sound_form_b) (take_value a.name a.value.now) c.take_value.result c.take_value.new.memory [] c.take_value.auto.memory (c.take_value.ensures _ (rest_in _ (tested (goal.at.returns c).Else-not-sound_form_b)))
+    gives_formed a.memory.now (tested places.Else-not-sound_form_b) (take_value a.name a.value.now) c.take_value.result c.take_value.new.memory [] c.take_value.auto.memory (c.take_value.ensures _ (rest_in _ (tested places.Else-not-sound_form_b)))

@@ -48,7 +48,8 @@ shape_of-memory c =
 pub returns : goal.returns
 unfolding number_of length_of position_of
 returns c =
-    let a = (start (goal.at.returns c).Else-not-is_profile).args in
+    let places = goal.at.returns c in
+    let a = (start places.Else-not-is_profile).args in
     let l = c.if-memory-ne-MEMORY_LENGTH.false in
-    gives_left _ 0 (Done 0) (make_fresh_forms a.memory.now a.profile l (known (goal.at.returns c).Else-not-is_profile)) refl refl refl
+    gives_left _ 0 (Done 0) (make_fresh_forms a.memory.now a.profile l (known places.Else-not-is_profile)) refl refl refl
     (fresh-back a.memory.now a.profile l c.make_fresh.new.m c.make_fresh.auto.m ∙ ap (λ m. a.profile ∷ m) (c.make_fresh.ensures ∙ fresh_spelt))

@@ -25,7 +25,7 @@ unfolding at16
 measured c =
     let l = c.get16-n.ensures.0 in
     record {
-      taken = (let it : Taken c.args.profile c.args.memory.now c.args.sent.now = record { is_sound = c.requires.0; nonzero = c.requires.1; short = c.requires.2 } in it);
+      taken = record { is_sound = c.requires.0; nonzero = c.requires.1; short = c.requires.2 };
       type = c.requires.3;
       there = c.if-sent-lt-COMMAND_HEAD.false;
       not_zero = omega (arith, l, c.if-n-eq0.false);
@@ -38,7 +38,7 @@ lent c = list_is c.args.sent.now c.get16-n.result c.get16-n.ensures.0
 
 -- what is told of the operations
 told : (c : After-whole) → c.whole.result ≡ wholeness c.args.profile (operations c.args.sent.now)
-told c = c.whole.ensures ∙ ap (wholeness c.args.profile) ((let it : take (3 + c.get16-n.result - 3) (drop 3 c.args.sent.now) ≡ operations c.args.sent.now = list_is c.args.sent.now c.get16-n.result c.get16-n.ensures.0 in it))
+told c = c.whole.ensures ∙ ap (wholeness c.args.profile) (list_is c.args.sent.now c.get16-n.result c.get16-n.ensures.0)
 
 pub returns-then-sent-lt-COMMAND_HEAD : goal.returns-then-sent-lt-COMMAND_HEAD
 unfolding number_of length_of position_of
@@ -66,15 +66,17 @@ carry_out-requires c =
 
 pub returns-in-Whole : goal.returns-in-Whole
 returns-in-Whole c =
+    let places = goal.at.returns-in-Whole c in
     let a = c.args in
-    let w = whole_some _ _ (sym c.in-Whole.is ∙ told (goal.at.returns-in-Whole c).After-whole) in
-    let e = message-command a.profile a.memory.now a.sent.now a.room.now (measured (goal.at.returns-in-Whole c).Else-sent-n) w in
-    rw (e, sym (lent (goal.at.returns-in-Whole c).After-list-1)) c.carry_out.ensures
+    let w = whole_some _ _ (sym c.in-Whole.is ∙ told places.After-whole) in
+    let e = message-command a.profile a.memory.now a.sent.now a.room.now (measured places.Else-sent-n) w in
+    rw (e, sym (lent places.After-list-1)) c.carry_out.ensures
 
 pub returns-in-Broken : goal.returns-in-Broken
 returns-in-Broken c =
+    let places = goal.at.returns-in-Broken c in
     let a = c.args in
-    let b = broken_none _ _ _ (sym c.in-Broken.is ∙ told (goal.at.returns-in-Broken c).After-whole) in
+    let b = broken_none _ _ _ (sym c.in-Broken.is ∙ told places.After-whole) in
     gives_broken a.memory.now a.room.now _
-    (message_6 a.profile a.memory.now a.sent.now a.room.now (measured (goal.at.returns-in-Broken c).Else-sent-n) (not_whole _ b.0)
+    (message_6 a.profile a.memory.now a.sent.now a.room.now (measured places.Else-sent-n) (not_whole _ b.0)
     ∙ ap (λ (p : ℕ). located p (number_only 6 a.memory.now a.room.now)) (sym b.1))

@@ -47,4 +47,5 @@ entry_at-requires c =
 
 pub returns : goal.returns
 returns c =
-    (rw (to_z-of_z c.ranges.instant, c.list_of.ensures, cycle-is (goal.at.returns c).After-cycle-cycle) at c.entry_at.ensures) ∙ started _ c.args.instant (left (goal.at.returns c).Else-instant-lt0)
+    let places = goal.at.returns c in
+    (rw (to_z-of_z c.ranges.instant, c.list_of.ensures, cycle-is places.After-cycle-cycle) at c.entry_at.ensures) ∙ started _ c.args.instant (left places.Else-instant-lt0)

@@ -34,7 +34,8 @@ ask_memory-requires c =
 
 pub returns : goal.returns
 returns c =
+    let places = goal.at.returns c in
     let b = c.args.memory.now in
     (rw (to_z-of_z c.ranges.instant) at c.ask_memory.ensures)
     ∙ ap (λ (m : List ℕ). running m c.args.instant) (rest_is_lem b 1)
-    ∙ sym (gates-sound b c.args.instant (tested (goal.at.returns c).Else-not-sound_form_b) ∙ gates-asked (profile_of b) (behind b) c.args.instant (sound_opened b (tested (goal.at.returns c).Else-not-sound_form_b)).1)
+    ∙ sym (gates-sound b c.args.instant (tested places.Else-not-sound_form_b) ∙ gates-asked (profile_of b) (behind b) c.args.instant (sound_opened b (tested places.Else-not-sound_form_b)).1)

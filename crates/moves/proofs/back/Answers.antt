@@ -68,9 +68,10 @@ append-requires c =
 
 pub returns : goal.returns
 returns c =
+    let places = goal.at.returns c in
     let a = c.args in
     let b = a.memory.now in
-    let s = tested (goal.at.returns c).Else-not-sound_form_b in
+    let s = tested places.Else-not-sound_form_b in
     let w = rw (rest_is_lem b 1) at c.append.ensures in
-    gives_moved (behind b) b _ (back_done b a.room.now s c.if-room-ne-OLD_LENGTH.false c.if-memory-ne-RELEASE_18.false (none (goal.at.returns c).Else-not-none_in_flight)) (omega (arith, w.0))
+    gives_moved (behind b) b _ (back_done b a.room.now s c.if-room-ne-OLD_LENGTH.false c.if-memory-ne-RELEASE_18.false (none places.Else-not-none_in_flight)) (omega (arith, w.0))
     (w.1 ∙ splice_all a.room.now (behind b) (omega (arith, behind-long b s, c.if-room-ne-OLD_LENGTH.false)))

@@ -36,13 +36,13 @@ module _ (c : After-present) where
       → part_of c.args.values (due_at c.args.profile c.args.m.now c.args.k) ≡ held_octets (record { name = c.row_at-row.result.name; value = b })
   valued p v e =
       let a = c.args in
-      part-value a.profile a.m.now a.k a.values ((let it : pending c.args.m.now c.args.k ≡ true = sym c.pending.ensures ∙ c.if-not-pending.false in it)) v (sym c.present.ensures ∙ p) ((let it : c.row_at-row.result.name ≡ (row_at c.args.k).name = name_is _ _ c.row_at-row.ensures.0 in it)) e
+      part-value a.profile a.m.now a.k a.values (sym c.pending.ensures ∙ c.if-not-pending.false) v (sym c.present.ensures ∙ p) (name_is _ _ c.row_at-row.ensures.0) e
 
   failing : {x : ℕ} → c.present.result ≡ false → c.args.values ≡ false → x ≡ cause_absent c.args.profile
       → part_of c.args.values (due_at c.args.profile c.args.m.now c.args.k) ≡ failed_octets (record { name = c.row_at-row.result.name; cause = x })
   failing p v e =
       let a = c.args in
-      part-absent a.profile a.m.now a.k a.values ((let it : pending c.args.m.now c.args.k ≡ true = sym c.pending.ensures ∙ c.if-not-pending.false in it)) v (sym c.present.ensures ∙ p) ((let it : c.row_at-row.result.name ≡ (row_at c.args.k).name = name_is _ _ c.row_at-row.ensures.0 in it)) e
+      part-absent a.profile a.m.now a.k a.values (sym c.pending.ensures ∙ c.if-not-pending.false) v (sym c.present.ensures ∙ p) (name_is _ _ c.row_at-row.ensures.0) e
 
 pub returns-then-not-pending : goal.returns-then-not-pending
 returns-then-not-pending c =
@@ -56,10 +56,11 @@ returns-then-not-values c =
 
 pub write_held-requires : goal.write_held-requires
 write_held-requires c =
+    let places = goal.at.write_held-requires c in
     let a = c.args in
     let b = c.body.result.now in
-    let e = valued (goal.at.write_held-requires c).After-present c.if-present.true (c.if-not-values.false) c.body.ensures in
-    (omega (arith, c.requires.2, ap length e, held-length (record { name = c.row_at-row.result.name; value = b })), named (goal.at.write_held-requires c).After-row_at-row, omega (arith, ap length c.body.ensures, body-length a.m.now a.k, most-small a.k c.requires.1))
+    let e = valued places.After-present c.if-present.true (c.if-not-values.false) c.body.ensures in
+    (omega (arith, c.requires.2, ap length e, held-length (record { name = c.row_at-row.result.name; value = b })), named places.After-row_at-row, omega (arith, ap length c.body.ensures, body-length a.m.now a.k, most-small a.k c.requires.1))
 
 pub returns-then-present : goal.returns-then-present
 returns-then-present c =
@@ -73,8 +74,9 @@ returns-then-values c =
 
 pub write_failed-requires : goal.write_failed-requires
 write_failed-requires c =
-    let e = failing (goal.at.write_failed-requires c).After-present c.if-present.false c.if-values.false c.absent_cause.ensures in
-    (omega (arith, c.requires.2, ap length e, failed-length (record { name = c.row_at-row.result.name; cause = c.absent_cause.result })), named (goal.at.write_failed-requires c).After-row_at-row)
+    let places = goal.at.write_failed-requires c in
+    let e = failing places.After-present c.if-present.false c.if-values.false c.absent_cause.ensures in
+    (omega (arith, c.requires.2, ap length e, failed-length (record { name = c.row_at-row.result.name; cause = c.absent_cause.result })), named places.After-row_at-row)
 
 pub returns : goal.returns
 returns c =

@@ -55,16 +55,19 @@ module _ (c : After-write_prefaces-starts) where
 
 pub write_octet-names-requires : goal.write_octet-names-requires
 write_octet-names-requires c =
-    type_fits _ (rs (goal.at.write_octet-names-requires c).Start) c.args.out.now (room (goal.at.write_octet-names-requires c).Start)
+    let places = goal.at.write_octet-names-requires c in
+    type_fits _ (rs places.Start) c.args.out.now (room places.Start)
 
 pub write_capabilities-at-requires : goal.write_capabilities-at-requires
 write_capabilities-at-requires c =
-    rw (names-asked (goal.at.write_capabilities-at-requires c).Start) (names_fit _ (rs (goal.at.write_capabilities-at-requires c).Start) c.args.out.now (room (goal.at.write_capabilities-at-requires c).Start) c.write_octet-names.ensures)
+    let places = goal.at.write_capabilities-at-requires c in
+    rw (names-asked places.Start) (names_fit _ (rs places.Start) c.args.out.now (room places.Start) c.write_octet-names.ensures)
 
 pub write_prefaces-starts-requires : goal.write_prefaces-starts-requires
 write_prefaces-starts-requires c =
-    let k = begun (goal.at.write_prefaces-starts-requires c).After-write_capabilities-at (room (goal.at.write_prefaces-starts-requires c).Start) (names-asked (goal.at.write_prefaces-starts-requires c).Start) in
-    let h = prefaces_fit (rs (goal.at.write_prefaces-starts-requires c).Start) c.write_capabilities-at.result c.write_capabilities-at.new.out (left_fits k) in
+    let places = goal.at.write_prefaces-starts-requires c in
+    let k = begun places.After-write_capabilities-at (room places.Start) (names-asked places.Start) in
+    let h = prefaces_fit (rs places.Start) c.write_capabilities-at.result c.write_capabilities-at.new.out (left_fits k) in
     (c.requires.1.1, (c.args.profile, rw k.same c.requires.1.2), rw c.requires.1.0 h)
 
 pub renew-requires : goal.renew-requires
@@ -73,14 +76,16 @@ renew-requires c =
 
 pub write-requires : goal.write-requires
 write-requires c =
-    let k = begun (goal.at.write-requires c).After-write_capabilities-at (room (goal.at.write-requires c).Start) (names-asked (goal.at.write-requires c).Start) in
+    let places = goal.at.write-requires c in
+    let k = begun places.After-write_capabilities-at (room places.Start) (names-asked places.Start) in
     rw c.renew.ensures
-    (c.requires.0.0, c.requires.0.1, c.requires.0.2, sections_fit (rs (goal.at.write-requires c).Start) c.write_capabilities-at.result c.write_capabilities-at.new.out (left_fits k) c.write_prefaces-starts.result c.write_prefaces-starts.new.out (prefaced (goal.at.write-requires c).After-write_prefaces-starts))
+    (c.requires.0.0, c.requires.0.1, c.requires.0.2, sections_fit (rs places.Start) c.write_capabilities-at.result c.write_capabilities-at.new.out (left_fits k) c.write_prefaces-starts.result c.write_prefaces-starts.new.out (prefaced places.After-write_prefaces-starts))
 
 pub returns : goal.returns
 returns c =
-    let s = rs (goal.at.returns c).Start in
-    let b = begun (goal.at.returns c).After-write_capabilities-at (room (goal.at.returns c).Start) (names-asked (goal.at.returns c).Start) in
+    let places = goal.at.returns c in
+    let s = rs places.Start in
+    let b = begun places.After-write_capabilities-at (room places.Start) (names-asked places.Start) in
     let k = rw c.renew.ensures at c.write.ensures.out_after in
-    let p = pieces_written s c.write_capabilities-at.result c.write_capabilities-at.new.out (left_fits b) c.write_prefaces-starts.result c.write_prefaces-starts.new.out (prefaced (goal.at.returns c).After-write_prefaces-starts) _ k in
+    let p = pieces_written s c.write_capabilities-at.result c.write_capabilities-at.new.out (left_fits b) c.write_prefaces-starts.result c.write_prefaces-starts.new.out (prefaced places.After-write_prefaces-starts) _ k in
     record { copy_after = rw c.renew.ensures at c.write.ensures.copy_after; out_after = (left_last b p).1 ∙ at_start c.args.out.now (complete c.args.profile s) }

@@ -20,9 +20,9 @@ whole c =
 
 headed : (c : After-write_head-first)
     → let a = c.args in
-    Left a.out.now a.at (element 0x70 a.needed (all_names a.profile)) c.write_head-first.new.out c.write_head-first.result (all_names a.profile)
-headed c =
-    left_next (0x70 ∷ be16 c.names_length-n.result) (all_names c.args.profile) ((let it : let a = c.args in Left a.out.now a.at (element 0x70 a.needed (all_names a.profile)) a.out.now a.at ((0x70 ∷ be16 c.names_length-n.result) ++ all_names a.profile) = let a = c.args in rw c.names_length-n.ensures.0 (left_as (rw (c.if-not-needed.false) (names_parts a.profile)) (left_start a.out.now a.at (element 0x70 a.needed (all_names a.profile)) c.requires)) in it)) c.write_head-first.ensures
+    Left a.out.now a.at (element 0x70 a.needed (all_names a.profile)) a.out.now a.at ((0x70 ∷ be16 c.names_length-n.result) ++ all_names a.profile)
+    → Left a.out.now a.at (element 0x70 a.needed (all_names a.profile)) c.write_head-first.new.out c.write_head-first.result (all_names a.profile)
+headed c b = left_next (0x70 ∷ be16 c.names_length-n.result) (all_names c.args.profile) b c.write_head-first.ensures
 
 pub returns-then-not-needed : goal.returns-then-not-needed
 unfolding element
@@ -36,9 +36,12 @@ write_head-first-requires c =
     (first_fits (0x70 ∷ be16 c.names_length-n.result) (all_names c.args.profile) (whole (goal.at.write_head-first-requires c).After-names_length-n), omega (arith, c.names_length-n.ensures.1))
 
 pub write_names-requires : goal.write_names-requires
-write_names-requires c = omega (arith, left_fits (headed (goal.at.write_names-requires c).After-write_head-first), names-length c.args.profile)
+write_names-requires c =
+    let places = goal.at.write_names-requires c in
+    omega (arith, left_fits (headed places.After-write_head-first (whole places.After-names_length-n)), names-length c.args.profile)
 
 pub returns : goal.returns
 returns c =
+    let places = goal.at.returns c in
     let p = c.write_names.ensures in
-    left_last (headed (goal.at.returns c).After-write_head-first) p
+    left_last (headed places.After-write_head-first (whole places.After-names_length-n)) p

@@ -73,63 +73,72 @@ write_opening-values-requires c =
 
 pub overflow_add-second : goal.overflow_add-second
 overflow_add-second c =
-    let h = within (goal.at.overflow_add-second c).Start ReadErrors in
-    let e = second_at (goal.at.overflow_add-second c).After-write_opening-values in
-    let l = short (goal.at.overflow_add-second c).Start in
+    let places = goal.at.overflow_add-second c in
+    let h = within places.Start ReadErrors in
+    let e = second_at places.After-write_opening-values in
+    let l = short places.Start in
     search rules
 
 pub overflow_add-third : goal.overflow_add-third
 overflow_add-third c =
-    let h = within (goal.at.overflow_add-third c).Start Updates in
-    let e = third_at (goal.at.overflow_add-third c).After-write_second_count-read_errors (wrote₁ (goal.at.overflow_add-third c).After-write_opening-values) in
-    let l = short (goal.at.overflow_add-third c).Start in
+    let places = goal.at.overflow_add-third c in
+    let h = within places.Start Updates in
+    let e = third_at places.After-write_second_count-read_errors (wrote₁ places.After-write_opening-values) in
+    let l = short places.Start in
     search rules
 
 pub overflow_add-fourth : goal.overflow_add-fourth
 overflow_add-fourth c =
-    let h = within (goal.at.overflow_add-fourth c).Start UpdateErrors in
-    let e = fourth-at (goal.at.overflow_add-fourth c).After-write_opening-updates (wrote₁ (goal.at.overflow_add-fourth c).After-write_opening-values) (wrote₂ (goal.at.overflow_add-fourth c).After-write_second_count-read_errors) in
-    let l = short (goal.at.overflow_add-fourth c).Start in
+    let places = goal.at.overflow_add-fourth c in
+    let h = within places.Start UpdateErrors in
+    let e = fourth-at places.After-write_opening-updates (wrote₁ places.After-write_opening-values) (wrote₂ places.After-write_second_count-read_errors) in
+    let l = short places.Start in
     search rules
 
 pub overflow_add-fifth : goal.overflow_add-fifth
 overflow_add-fifth c =
-    let h = within (goal.at.overflow_add-fifth c).Start LongUpdates in
-    let e = fifth-at (goal.at.overflow_add-fifth c).After-write_second_count-update_errors (wrote₁ (goal.at.overflow_add-fifth c).After-write_opening-values) (wrote₂ (goal.at.overflow_add-fifth c).After-write_second_count-read_errors) (wrote₃ (goal.at.overflow_add-fifth c).After-write_opening-updates) in
-    let l = short (goal.at.overflow_add-fifth c).Start in
+    let places = goal.at.overflow_add-fifth c in
+    let h = within places.Start LongUpdates in
+    let e = fifth-at places.After-write_second_count-update_errors (wrote₁ places.After-write_opening-values) (wrote₂ places.After-write_second_count-read_errors) (wrote₃ places.After-write_opening-updates) in
+    let l = short places.Start in
     search rules
 
 pub write_second_count-read_errors-requires : goal.write_second_count-read_errors-requires
-write_second_count-read_errors-requires c = (
-  few_read_errors _ _ c.args.t c.requires.1.1,
-  omega (arith, within (goal.at.write_second_count-read_errors-requires c).Start ReadErrors, second_at (goal.at.write_second_count-read_errors-requires c).After-write_opening-values, c.write_opening-values.auto.out, ap length (preface-read_errors c.args.t _ c.any_read-reads.ensures)),
-)
+write_second_count-read_errors-requires c =
+    let places = goal.at.write_second_count-read_errors-requires c in (
+      few_read_errors _ _ c.args.t c.requires.1.1,
+      omega (arith, within places.Start ReadErrors, second_at places.After-write_opening-values, c.write_opening-values.auto.out, ap length (preface-read_errors c.args.t _ c.any_read-reads.ensures)),
+    )
 
 pub write_opening-updates-requires : goal.write_opening-updates-requires
 write_opening-updates-requires c =
+    let places = goal.at.write_opening-updates-requires c in
     let a = c.any_set-sets.ensures in
     let n = c.set_octets-k.ensures.0 in (
       λ b. omega (arith, n, set-small _ _ c.args.t c.requires.1.1 (sym a ∙ b)),
       few_updates _ _ c.args.t c.requires.1.1,
-      omega (arith, within (goal.at.write_opening-updates-requires c).Start Updates, third_at (goal.at.write_opening-updates-requires c).After-write_second_count-read_errors (wrote₁ (goal.at.write_opening-updates-requires c).After-write_opening-values), c.write_second_count-read_errors.auto.out ∙ c.write_opening-values.auto.out, ap length (preface-updates c.args.t _ _ a n)),
+      omega (arith, within places.Start Updates, third_at places.After-write_second_count-read_errors (wrote₁ places.After-write_opening-values), c.write_second_count-read_errors.auto.out ∙ c.write_opening-values.auto.out, ap length (preface-updates c.args.t _ _ a n)),
     )
 
 pub write_second_count-update_errors-requires : goal.write_second_count-update_errors-requires
-write_second_count-update_errors-requires c = (
-  few_update_errors _ _ c.args.t c.requires.1.1,
-  omega (arith, within (goal.at.write_second_count-update_errors-requires c).Start UpdateErrors, fourth-at (goal.at.write_second_count-update_errors-requires c).After-write_opening-updates (wrote₁ (goal.at.write_second_count-update_errors-requires c).After-write_opening-values) (wrote₂ (goal.at.write_second_count-update_errors-requires c).After-write_second_count-read_errors), c.write_opening-updates.auto.out ∙ (c.write_second_count-read_errors.auto.out ∙ c.write_opening-values.auto.out), ap length (preface-update_errors c.args.t _ c.any_set-sets.ensures)),
-)
+write_second_count-update_errors-requires c =
+    let places = goal.at.write_second_count-update_errors-requires c in (
+      few_update_errors _ _ c.args.t c.requires.1.1,
+      omega (arith, within places.Start UpdateErrors, fourth-at places.After-write_opening-updates (wrote₁ places.After-write_opening-values) (wrote₂ places.After-write_second_count-read_errors), c.write_opening-updates.auto.out ∙ (c.write_second_count-read_errors.auto.out ∙ c.write_opening-values.auto.out), ap length (preface-update_errors c.args.t _ c.any_set-sets.ensures)),
+    )
 
 pub write_longs-long_updates-requires : goal.write_longs-long_updates-requires
-write_longs-long_updates-requires c = (
-  long-small _ _ c.args.t c.requires.1.1,
-  omega (arith, within (goal.at.write_longs-long_updates-requires c).Start LongUpdates, fifth-at (goal.at.write_longs-long_updates-requires c).After-write_second_count-update_errors (wrote₁ (goal.at.write_longs-long_updates-requires c).After-write_opening-values) (wrote₂ (goal.at.write_longs-long_updates-requires c).After-write_second_count-read_errors) (wrote₃ (goal.at.write_longs-long_updates-requires c).After-write_opening-updates), c.write_second_count-update_errors.auto.out ∙ (c.write_opening-updates.auto.out ∙ (c.write_second_count-read_errors.auto.out ∙ c.write_opening-values.auto.out)), ap length (preface-long_updates c.args.t)),
-)
+write_longs-long_updates-requires c =
+    let places = goal.at.write_longs-long_updates-requires c in (
+      long-small _ _ c.args.t c.requires.1.1,
+      omega (arith, within places.Start LongUpdates, fifth-at places.After-write_second_count-update_errors (wrote₁ places.After-write_opening-values) (wrote₂ places.After-write_second_count-read_errors) (wrote₃ places.After-write_opening-updates), c.write_second_count-update_errors.auto.out ∙ (c.write_opening-updates.auto.out ∙ (c.write_second_count-read_errors.auto.out ∙ c.write_opening-values.auto.out)), ap length (preface-long_updates c.args.t)),
+    )
 
 pub shape_of-out : goal.shape_of-out
 shape_of-out c = c.write_longs-long_updates.auto.out ∙ (c.write_second_count-update_errors.auto.out ∙ (c.write_opening-updates.auto.out ∙ (c.write_second_count-read_errors.auto.out ∙ c.write_opening-values.auto.out)))
 
 pub returns : goal.returns
 returns c =
-    prefaces_filled c.args.t c.args.at c.args.out.now (wrote₁ (goal.at.returns c).After-write_opening-values) (wrote₂ (goal.at.returns c).After-write_second_count-read_errors) (wrote₃ (goal.at.returns c).After-write_opening-updates) (wrote₄ (goal.at.returns c).After-write_second_count-update_errors)
+    let places = goal.at.returns c in
+    prefaces_filled c.args.t c.args.at c.args.out.now (wrote₁ places.After-write_opening-values) (wrote₂ places.After-write_second_count-read_errors) (wrote₃ places.After-write_opening-updates) (wrote₄ places.After-write_second_count-update_errors)
     (wrote_this _ _ (preface-long_updates c.args.t) c.write_longs-long_updates.ensures)

@@ -62,7 +62,8 @@ call-outcome-requires c =
 
 pub slice_bounds-write_answer-end-2 : goal.slice_bounds-write_answer-end-2
 slice_bounds-write_answer-end-2 c =
-    sym (ap length (again (goal.at.slice_bounds-write_answer-end-2 c).After-call-outcome) ∙ room-long (goal.at.slice_bounds-write_answer-end-2 c).After-call-outcome)
+    let places = goal.at.slice_bounds-write_answer-end-2 c in
+    sym (ap length (again places.After-call-outcome) ∙ room-long places.After-call-outcome)
 
 pub write_answer-end-requires : goal.write_answer-end-requires
 write_answer-end-requires c =
@@ -76,15 +77,16 @@ write_answer-end-requires c =
 
 pub returns : goal.returns
 returns c =
+    let places = goal.at.returns c in
     let a = c.args in
     let r = c.room_for-n in
     let made = c.call_of-made.result in
     let m = take a.lent.memory a.memory.now in
     let h = take r.result r.new.room in
     let g = c.call-outcome.ensures in
-    let w = told made a.body.now m h a.out.now a.at g a.code (rw (again (goal.at.returns c).After-call-outcome) at c.write_answer-end.ensures) in (
-      right (goal.at.returns c).Else-not-body_right,
+    let w = told made a.body.now m h a.out.now a.at g a.code (rw (again places.After-call-outcome) at c.write_answer-end.ensures) in (
+      right places.Else-not-body_right,
       call_left a.out.now a.at _ (c.requires.2.0, r.ensures.0) a.code (called made a.body.now m h) c.call-outcome.new.memory a.memory.now c.call-outcome.new.room a.room.now r.new.room _
           (call-row a.code c.call_of-made.ensures a.body.now m (take a.lent.room a.room.now) (omega (arith, c.if-made-ge5.false)) ∙ ap (λ (x : List ℕ). instructions.answered a.code (called made a.body.now m x)) (sym (front_is a.room.now _ r.ensures.1)))
-          w.1 g.memory_is g.room_is (omega (arith, w.0, length-take-le r.result r.new.room (omega (arith, r.ensures.0, r.auto.room, c.requires.1)), r.ensures.0)) c.requires.0 r.ensures.1 (c.call-outcome.auto.memory ∙ length-take-le c.args.lent.memory c.args.memory.now (omega (arith, c.requires.0, c.requires.2.0))) (room-long (goal.at.returns c).After-call-outcome),
+          w.1 g.memory_is g.room_is (omega (arith, w.0, length-take-le r.result r.new.room (omega (arith, r.ensures.0, r.auto.room, c.requires.1)), r.ensures.0)) c.requires.0 r.ensures.1 (c.call-outcome.auto.memory ∙ length-take-le c.args.lent.memory c.args.memory.now (omega (arith, c.requires.0, c.requires.2.0))) (room-long places.After-call-outcome),
     )

@@ -42,7 +42,8 @@ slice_bounds-move_memory-end-3 c =
 
 pub slice_bounds-write_move-end-2 : goal.slice_bounds-write_move-end-2
 slice_bounds-write_move-end-2 c =
-    sym (ap length (again (goal.at.slice_bounds-write_move-end-2 c).After-move_memory-answer) ∙ room-long (goal.at.slice_bounds-write_move-end-2 c).After-move_memory-answer)
+    let places = goal.at.slice_bounds-write_move-end-2 c in
+    sym (ap length (again places.After-move_memory-answer) ∙ room-long places.After-move_memory-answer)
 
 pub write_move-end-requires : goal.write_move-end-requires
 write_move-end-requires c =
@@ -54,16 +55,17 @@ write_move-end-requires c =
 
 pub returns : goal.returns
 returns c =
+    let places = goal.at.returns c in
     let a = c.args in
     let r = c.make_room-n in
     let m = take a.lent.memory a.memory.now in
     let h = take r.result r.new.room in
     let g = c.move_memory-answer.ensures in
     let o = (move_body a.code (length a.body.now) c.requires.1 c.requires.2).1 in
-    let w = told a.code m h a.out.now a.at g o (rw (again (goal.at.returns c).After-move_memory-answer) at c.write_move-end.ensures) in
+    let w = told a.code m h a.out.now a.at g o (rw (again places.After-move_memory-answer) at c.write_move-end.ensures) in
     let e = ap (λ (n : ℕ). instructions.anew n) (sym c.get16.ensures.0) ∙ sym (front_is a.room.now _ r.ensures.1) in (
       c.requires.1,
       move_left a.out.now a.at _ (c.requires.0.2.0, r.ensures.0) a.code (moved_by a.code m h) a.memory.now c.move_memory-answer.new.room a.room.now r.new.room _
           (move_row a.code a.body.now m (take a.lent.room a.room.now) o ∙ ap (λ (x : List ℕ). instructions.answered a.code (moved_by a.code m x)) e)
-          w.1 (moved_leaves a.code m h a.out.now a.at g) g.room_is (omega (arith, w.0, length-take-le r.result r.new.room (omega (arith, r.ensures.0, r.auto.room, c.requires.0.1)), r.ensures.0)) c.requires.0.0 r.ensures.1 (room-long (goal.at.returns c).After-move_memory-answer),
+          w.1 (moved_leaves a.code m h a.out.now a.at g) g.room_is (omega (arith, w.0, length-take-le r.result r.new.room (omega (arith, r.ensures.0, r.auto.room, c.requires.0.1)), r.ensures.0)) c.requires.0.0 r.ensures.1 (room-long places.After-move_memory-answer),
     )

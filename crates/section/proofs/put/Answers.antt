@@ -55,20 +55,23 @@ slice_bounds-v-end c =
 
 pub write_short-requires : goal.write_short-requires
 write_short-requires c =
+    let places = goal.at.write_short-requires c in
     let n : size_of c.args.op ≤ 255 = omega (arith, c.if-size-le-SHORT_MOST.true, c.size_of-size.ensures) in
-    rw (sent_is (goal.at.write_short-requires c).After-size_of-size)
-    (rw (long (goal.at.write_short-requires c).After-size_of-size) (short-fits _ _ _ _ c.args.a c.args.c _ c.requires.5 c.in-Update.is (lies (goal.at.write_short-requires c).After-size_of-size) n), omega (arith, small (goal.at.write_short-requires c).After-size_of-size, c.name_of-name.ensures), omega (arith, long (goal.at.write_short-requires c).After-size_of-size, n, lies (goal.at.write_short-requires c).After-size_of-size, c.requires.1))
+    rw (sent_is places.After-size_of-size)
+    (rw (long places.After-size_of-size) (short-fits _ _ _ _ c.args.a c.args.c _ c.requires.5 c.in-Update.is (lies places.After-size_of-size) n), omega (arith, small places.After-size_of-size, c.name_of-name.ensures), omega (arith, long places.After-size_of-size, n, lies places.After-size_of-size, c.requires.1))
 
 pub returns-then-size-le-SHORT_MOST : goal.returns-then-size-le-SHORT_MOST
 returns-then-size-le-SHORT_MOST c =
-    short-put _ c.args.m.now c.args.list.now c.args.op c.args.a c.args.c c.args.out.now _ _ c.in-Update.is (lies (goal.at.returns-then-size-le-SHORT_MOST c).After-size_of-size) (omega (arith, c.if-size-le-SHORT_MOST.true, c.size_of-size.ensures))
-    (wrote_this c.args.out.now _ (ap₂ (λ (n : ℕ) (v : List ℕ). short_octets (record { name = n; value = v })) (sym c.name_of-name.ensures) (sym (sent_is (goal.at.returns-then-size-le-SHORT_MOST c).After-size_of-size))) c.write_short.ensures)
+    let places = goal.at.returns-then-size-le-SHORT_MOST c in
+    short-put _ c.args.m.now c.args.list.now c.args.op c.args.a c.args.c c.args.out.now _ _ c.in-Update.is (lies places.After-size_of-size) (omega (arith, c.if-size-le-SHORT_MOST.true, c.size_of-size.ensures))
+    (wrote_this c.args.out.now _ (ap₂ (λ (n : ℕ) (v : List ℕ). short_octets (record { name = n; value = v })) (sym c.name_of-name.ensures) (sym (sent_is places.After-size_of-size))) c.write_short.ensures)
 
 pub write_held-requires : goal.write_held-requires
 write_held-requires c =
+    let places = goal.at.write_held-requires c in
     let n : 255 < size_of c.args.op = omega (arith, c.if-size-le-SHORT_MOST.false, c.size_of-size.ensures) in
-    rw (sent_is (goal.at.write_held-requires c).After-size_of-size)
-    (rw (long (goal.at.write_held-requires c).After-size_of-size) (long-fits _ _ _ _ c.args.a c.args.c _ c.requires.5 c.in-Update.is (lies (goal.at.write_held-requires c).After-size_of-size) n), omega (arith, small (goal.at.write_held-requires c).After-size_of-size, c.name_of-name.ensures), omega (arith, long (goal.at.write_held-requires c).After-size_of-size, n, lies (goal.at.write_held-requires c).After-size_of-size, c.requires.1))
+    rw (sent_is places.After-size_of-size)
+    (rw (long places.After-size_of-size) (long-fits _ _ _ _ c.args.a c.args.c _ c.requires.5 c.in-Update.is (lies places.After-size_of-size) n), omega (arith, small places.After-size_of-size, c.name_of-name.ensures), omega (arith, long places.After-size_of-size, n, lies places.After-size_of-size, c.requires.1))
 
 pub write_failed-requires-in-UpdateError : goal.write_failed-requires-in-UpdateError
 write_failed-requires-in-UpdateError c =
@@ -88,8 +91,9 @@ returns-in-ReadError c =
 
 pub returns-else-size-le-SHORT_MOST : goal.returns-else-size-le-SHORT_MOST
 returns-else-size-le-SHORT_MOST c =
-    long-put _ c.args.m.now c.args.list.now c.args.op c.args.a c.args.c c.args.out.now _ _ c.in-Update.is (lies (goal.at.returns-else-size-le-SHORT_MOST c).After-size_of-size) (omega (arith, c.if-size-le-SHORT_MOST.false, c.size_of-size.ensures))
-    (wrote_this c.args.out.now _ (ap₂ (λ (n : ℕ) (v : List ℕ). held_octets (record { name = n; value = v })) (sym c.name_of-name.ensures) (sym (sent_is (goal.at.returns-else-size-le-SHORT_MOST c).After-size_of-size))) c.write_held.ensures)
+    let places = goal.at.returns-else-size-le-SHORT_MOST c in
+    long-put _ c.args.m.now c.args.list.now c.args.op c.args.a c.args.c c.args.out.now _ _ c.in-Update.is (lies places.After-size_of-size) (omega (arith, c.if-size-le-SHORT_MOST.false, c.size_of-size.ensures))
+    (wrote_this c.args.out.now _ (ap₂ (λ (n : ℕ) (v : List ℕ). held_octets (record { name = n; value = v })) (sym c.name_of-name.ensures) (sym (sent_is places.After-size_of-size))) c.write_held.ensures)
 
 pub returns-in-UpdateError : goal.returns-in-UpdateError
 returns-in-UpdateError c =

@@ -71,14 +71,15 @@ learnt-known-requires c = (c.carry_out-a.auto.m ∙ long_of _ c.loop-op.invarian
 
 pub put-c-requires : goal.put-c-requires
 put-c-requires c =
+    let places = goal.at.put-c-requires c in
     let k = c.carry_out-a in
     let l = c.loop-op in (
       k.auto.m ∙ long_of _ l.invariant.under.is_sound,
       c.requires.2,
-      (ahead (goal.at.put-c-requires c).In-Operation).2,
+      (ahead places.In-Operation).2,
       (told_back _ _ _ _ _ k.result k.ensures.m_after k.ensures.value).1,
-      now-known (goal.at.put-c-requires c).After-learnt-known,
-      turn-fits _ _ _ _ _ _ _ l.c l.known l.from l.invariant _ (hands (goal.at.put-c-requires c).After-hand_out-h) _ _ c.in-Operation.is _ k.result k.ensures.m_after k.ensures.value,
+      now-known places.After-learnt-known,
+      turn-fits _ _ _ _ _ _ _ l.c l.known l.from l.invariant _ (hands places.After-hand_out-h) _ _ c.in-Operation.is _ k.result k.ensures.m_after k.ensures.value,
     )
 
 pub loop-op-smaller : goal.loop-op-smaller
@@ -88,7 +89,8 @@ loop-op-smaller c =
 
 pub loop-op-preserved : goal.loop-op-preserved
 loop-op-preserved c =
+    let places = goal.at.loop-op-preserved c in
     let k = c.carry_out-a in
     let l = c.loop-op in
-    passing_turn _ _ _ _ _ _ _ l.c l.known l.from l.invariant _ (hands (goal.at.loop-op-preserved c).After-hand_out-h) _ _ c.in-Operation.is _ k.result k.ensures.m_after k.ensures.value
-    _ _ _ (now-known (goal.at.loop-op-preserved c).After-learnt-known) c.put-c.ensures
+    passing_turn _ _ _ _ _ _ _ l.c l.known l.from l.invariant _ (hands places.After-hand_out-h) _ _ c.in-Operation.is _ k.result k.ensures.m_after k.ensures.value
+    _ _ _ (now-known places.After-learnt-known) c.put-c.ensures

@@ -76,22 +76,25 @@ write_value_head-from-requires c =
 
 pub overflow_add-end : goal.overflow_add-end
 overflow_add-end c =
-    let e = behind-head (goal.at.overflow_add-end c).After-write_value_head-from in
-    let h = record-fits (goal.at.overflow_add-end c).After-running_sums-s in
+    let places = goal.at.overflow_add-end c in
+    let e = behind-head places.After-write_value_head-from in
+    let h = record-fits places.After-running_sums-s in
     search rules
 
 pub slice_bounds-write_sums-end : goal.slice_bounds-write_sums-end
 slice_bounds-write_sums-end c =
-    let e = behind-head (goal.at.slice_bounds-write_sums-end c).After-write_value_head-from in
-    let h = record-fits (goal.at.slice_bounds-write_sums-end c).After-running_sums-s in
+    let places = goal.at.slice_bounds-write_sums-end c in
+    let e = behind-head places.After-write_value_head-from in
+    let h = record-fits places.After-running_sums-s in
     search rules
 
 pub returns : goal.returns
 returns c =
-    let k = (goal.at.returns c).After-running_sums-s in
+    let places = goal.at.returns c in
+    let k = places.After-running_sums-s in
     let a = c.args in
     let from = c.write_value_head-from.result in
     let e = c.write_sums.ensures ∙ sums-shown k in
     let l : length c.write_sums.new.out ≡ 4 = ap length e ∙ four-shown k in
-    held-written a.out.now (asked k) a.at a.name (omega (arith, record-fits k, four-shown k)) (head-written (goal.at.returns c).After-write_value_head-from (four-shown k))
+    held-written a.out.now (asked k) a.at a.name (omega (arith, record-fits k, four-shown k)) (head-written places.After-write_value_head-from (four-shown k))
     (ap (λ (n : ℕ). from + n) (sym (four-shown k)), lent_back c.write_value_head-from.new.out _ from (from + 4) (omega arith) (omega (arith, l)) ∙ ap (splice c.write_value_head-from.new.out from) e)

@@ -29,18 +29,21 @@ module _ (c : After-fields_at-10) where
 
 pub returns-then-not-half : goal.returns-then-not-half
 unfolding all_fields
-returns-then-not-half c = sym (below_denied (fields_at (m (goal.at.returns-then-not-half c).After-fields_at-10)) 10 (sym (half_is (goal.at.returns-then-not-half c).After-fields_at-10) ∙ c.if-not-half.true) 9)
+returns-then-not-half c =
+    let places = goal.at.returns-then-not-half c in
+    sym (below_denied (fields_at (m places.After-fields_at-10)) 10 (sym (half_is places.After-fields_at-10) ∙ c.if-not-half.true) 9)
 
 pub returns : goal.returns
 unfolding all_fields
 returns c =
-    let a10 = sym (c.if-not-half.false) ∙ half_is (goal.at.returns c).After-fields_at-10 in
-    let a11 = next_field (m (goal.at.returns c).After-fields_at-10) 10 a10 c.fields_at-11.ensures in
-    let a12 = next_field (m (goal.at.returns c).After-fields_at-10) 11 a11 c.fields_at-12.ensures in
-    let a13 = next_field (m (goal.at.returns c).After-fields_at-10) 12 a12 c.fields_at-13.ensures in
-    let a14 = next_field (m (goal.at.returns c).After-fields_at-10) 13 a13 c.fields_at-14.ensures in
-    let a15 = next_field (m (goal.at.returns c).After-fields_at-10) 14 a14 c.fields_at-15.ensures in
-    let a16 = next_field (m (goal.at.returns c).After-fields_at-10) 15 a15 c.fields_at-16.ensures in
-    let a17 = next_field (m (goal.at.returns c).After-fields_at-10) 16 a16 c.fields_at-17.ensures in
-    let a18 = next_field (m (goal.at.returns c).After-fields_at-10) 17 a17 c.fields_at-18.ensures in
-    next_field (m (goal.at.returns c).After-fields_at-10) 18 a18 c.fields_at-19.ensures
+    let places = goal.at.returns c in
+    let a10 = sym (c.if-not-half.false) ∙ half_is places.After-fields_at-10 in
+    let a11 = next_field (m places.After-fields_at-10) 10 a10 c.fields_at-11.ensures in
+    let a12 = next_field (m places.After-fields_at-10) 11 a11 c.fields_at-12.ensures in
+    let a13 = next_field (m places.After-fields_at-10) 12 a12 c.fields_at-13.ensures in
+    let a14 = next_field (m places.After-fields_at-10) 13 a13 c.fields_at-14.ensures in
+    let a15 = next_field (m places.After-fields_at-10) 14 a14 c.fields_at-15.ensures in
+    let a16 = next_field (m places.After-fields_at-10) 15 a15 c.fields_at-16.ensures in
+    let a17 = next_field (m places.After-fields_at-10) 16 a16 c.fields_at-17.ensures in
+    let a18 = next_field (m places.After-fields_at-10) 17 a17 c.fields_at-18.ensures in
+    next_field (m places.After-fields_at-10) 18 a18 c.fields_at-19.ensures

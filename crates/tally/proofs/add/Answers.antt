@@ -33,10 +33,11 @@ shown_length-requires c =
 pub returns-then-size-le-SHORT_MOST : goal.returns-then-size-le-SHORT_MOST
 unfolding tallied answer_of
 returns-then-size-le-SHORT_MOST c =
+    let places = goal.at.returns-then-size-le-SHORT_MOST c in
     let a = c.args in
-    let l = size-long (goal.at.returns-then-size-le-SHORT_MOST c).After-size_of-size in
+    let l = size-long places.After-size_of-size in
     rw c.in-Update.is
-    (update_added a.t (name_of a.op) (stands (goal.at.returns-then-size-le-SHORT_MOST c).After-size_of-size) (omega (arith, l, c.if-size-le-SHORT_MOST.true)) (c.one_more-r-then-size-le-SHORT_MOST.ensures ∙ ap (λ (n : ℕ). grown a.t.updates 1 (3 + n)) (sym l)))
+    (update_added a.t (name_of a.op) (stands places.After-size_of-size) (omega (arith, l, c.if-size-le-SHORT_MOST.true)) (c.one_more-r-then-size-le-SHORT_MOST.ensures ∙ ap (λ (n : ℕ). grown a.t.updates 1 (3 + n)) (sym l)))
 
 pub overflow_add-size-in-Update : goal.overflow_add-size-in-Update
 overflow_add-size-in-Update c = omega (arith, size_small (goal.at.overflow_add-size-in-Update c).After-size_of-size)
@@ -62,10 +63,11 @@ returns-in-ReadError c = rw c.in-ReadError.is (read_error_added c.args.t _ _ c.o
 pub returns-else-size-le-SHORT_MOST : goal.returns-else-size-le-SHORT_MOST
 unfolding tallied answer_of
 returns-else-size-le-SHORT_MOST c =
+    let places = goal.at.returns-else-size-le-SHORT_MOST c in
     let a = c.args in
-    let l = size-long (goal.at.returns-else-size-le-SHORT_MOST c).After-size_of-size in
+    let l = size-long places.After-size_of-size in
     rw c.in-Update.is
-    (long_added a.t (name_of a.op) (stands (goal.at.returns-else-size-le-SHORT_MOST c).After-size_of-size) (omega (arith, l, c.if-size-le-SHORT_MOST.false)) (c.one_more-r-in-Update.ensures ∙ ap (λ (n : ℕ). grown a.t.long_updates 1 (4 + n)) (sym l)))
+    (long_added a.t (name_of a.op) (stands places.After-size_of-size) (omega (arith, l, c.if-size-le-SHORT_MOST.false)) (c.one_more-r-in-Update.ensures ∙ ap (λ (n : ℕ). grown a.t.long_updates 1 (4 + n)) (sym l)))
 
 pub returns-in-UpdateError : goal.returns-in-UpdateError
 unfolding tallied answer_of
