@@ -1,9 +1,9 @@
 -- The line that a call's outcome is answered with: as the definition of the call gives it, and as the call's answer and room tell it.
 use Rattle.std.specs.Prelude.{ℕ, ◌≡◌, List, take}
 use Rattle.meaning.specs.Calls as calls
-use Rattle.octets.specs.Writing.{Wrote}
-use Rattle.endpoint.specs.Outcomes.{number_of, length_of, position_of}
-use Rattle.endpoint.specs.declared.Outcome.{Outcome}
+use Rattle.page.specs.declared.Page.{Page}
+use Rattle.page.specs.Printing.{Prints}
+use Rattle.endpoint.specs.Outcomes.{Outcome, number_of, length_of, position_of}
 use Rattle.text.specs.Lines.{line, full_line}
 
 -- the number, a space, what was written in hex or `-`
@@ -26,8 +26,8 @@ pub record Port : Type 0 where
   pub memory : List ℕ
   pub room : List ℕ
 
--- an outcome's line has been written at a place, and memory and room are left as it says
-pub record Answers (o : calls.Outcome) (out : List ℕ) (at end : ℕ) (memory room out' : List ℕ) : Type 0 where
-  pub wrote : Wrote out at (line_of o) end out'
+-- an outcome's line has been printed, and memory and room are left as it says
+pub record Answers (o : calls.Outcome) (before after : Page) (memory room : List ℕ) : Type 0 where
+  pub printed : Prints before (line_of o) after
   pub memory_is : memory ≡ o.memory
   pub room_is : room ≡ o.room

@@ -1,2 +1,2 @@
--- What the contracts of `bridge` cite beside `meaning`, `answers` and `stdio`.
+-- What `bridge` does with its frames.
 pub mod Frames

@@ -9,6 +9,7 @@ use mathlib.Core.Option.{Option, none, some}
 use lib.ListN.{length}
 use lib.Dec.{eqb}
 use borrow.Author.Tests.{eq-eqb, ne_eqb}
+use Rattle.std.specs.Prelude.{Some, None}
 use Rattle.meaning.specs.Octets.{be16, part}
 use Rattle.meaning.specs.Reply.{Held, Failed, held_octets, short_octets}
 use Rattle.meaning.specs.Capture.{capturing, then_read, front_name, front_held, front_failed, read_cause, update_cause, behind_count, until_end_in, until_end, exactly, names_in, status_in, result_in, of_element}
@@ -19,7 +20,6 @@ use Rattle.meaning.proofs.Backwards.{read_as, count-read, held_came, short_came}
 use Rattle.contents.specs.Spans.{span, octets_of, with_errors, with_values, counted_in}
 use Rattle.contents.specs.declared.Span.{Span}
 use Rattle.capture.specs.declared.Cursor.{Cursor}
-use Rattle.capture.specs.declared.Opened.{Opened}
 use Rattle.capture.specs.Opening.{cursor, nothing_left, opened_names, status_of, opened_status, longs_at, with_longs, result_of, opened_result}
 use Rattle.capture.proofs.OneKind.{Whole}
 use Rattle.capture.proofs.WalksAgree.{Kept}
@@ -43,13 +43,13 @@ pub record StatusOpen (s : List ℕ) (q p : Span) (o : Option (List ℕ)) : Type
   pub errors : Span
   pub vs : List Held
   pub es : List Failed
-  pub opened : opened_status s (cursor q empty empty empty empty empty) p ≡ Opened.Left (cursor q values errors empty empty empty)
+  pub opened : opened_status s (cursor q empty empty empty empty empty) p ≡ Some (cursor q values errors empty empty empty)
   pub read : of_element status_in o ≡ some (capturing [] vs es [] [] [])
   pub whole_values : Whole (front_held 2) s values vs
   pub whole_errors : Whole (front_failed read_cause) s errors es
 
 abbrev pub StatusOpens : List ℕ → Span → Span → Option (List ℕ) → Type 0
-StatusOpens s q p o = ((opened_status s (cursor q empty empty empty empty empty) p ≡ Opened.CutShort) × (of_element status_in o ≡ none)) ⊎ StatusOpen s q p o
+StatusOpens s q p o = ((opened_status s (cursor q empty empty empty empty empty) p ≡ None) × (of_element status_in o ≡ none)) ⊎ StatusOpen s q p o
 
 module _ (s : List ℕ) (octets : Octets s) (q p : Span) where
   status-absent : p ≡ empty → StatusOpens s q p none
@@ -111,15 +111,15 @@ module _ (s : List ℕ) (octets : Octets s) (q p : Span) where
 pub record NamesOpen (s : List ℕ) (p : Span) (o : Option (List ℕ)) : Type 0 where
   pub names : Span
   pub ns : List ℕ
-  pub opened : opened_names nothing_left p ≡ Opened.Left (cursor names empty empty empty empty empty)
+  pub opened : opened_names nothing_left p ≡ Some (cursor names empty empty empty empty empty)
   pub read : of_element names_in o ≡ some (capturing ns [] [] [] [] [])
   pub whole : Whole front_name s names ns
 
 abbrev pub NamesOpens : List ℕ → Span → Option (List ℕ) → Type 0
-NamesOpens s p o = ((opened_names nothing_left p ≡ Opened.CutShort) × (of_element names_in o ≡ none)) ⊎ NamesOpen s p o
+NamesOpens s p o = ((opened_names nothing_left p ≡ None) × (of_element names_in o ≡ none)) ⊎ NamesOpen s p o
 
 module _ (s : List ℕ) (p : Span) (k : Kept s p (some (octets_of s p))) where
-  names_opened : opened_names nothing_left p ≡ cond (eqb ((p.to - p.from) % 2) 0) (Opened.Left (cursor p empty empty empty empty empty)) Opened.CutShort
+  names_opened : opened_names nothing_left p ≡ cond (eqb ((p.to - p.from) % 2) 0) (Some (cursor p empty empty empty empty empty)) None
   unfolding opened_names
   names_opened = rw (ne_eqb p.to 0 (λ y. omega (arith, y, k.1)))
 
@@ -147,14 +147,14 @@ pub record ResultOpen (s : List ℕ) (q v e p : Span) (o : Option (List ℕ)) : 
   pub us : List Held
   pub fs : List Failed
   pub ls : List Held
-  pub opened : opened_result s (cursor q v e empty empty empty) p ≡ Opened.Left (cursor q v e updates errors longs)
+  pub opened : opened_result s (cursor q v e empty empty empty) p ≡ Some (cursor q v e updates errors longs)
   pub read : of_element result_in o ≡ some (capturing [] [] [] us fs ls)
   pub whole_updates : Whole (front_held 1) s updates us
   pub whole_errors : Whole (front_failed update_cause) s errors fs
   pub whole_longs : Whole (front_held 2) s longs ls
 
 abbrev pub ResultOpens : List ℕ → Span → Span → Span → Span → Option (List ℕ) → Type 0
-ResultOpens s q v e p o = ((opened_result s (cursor q v e empty empty empty) p ≡ Opened.CutShort) × (of_element result_in o ≡ none)) ⊎ ResultOpen s q v e p o
+ResultOpens s q v e p o = ((opened_result s (cursor q v e empty empty empty) p ≡ None) × (of_element result_in o ≡ none)) ⊎ ResultOpen s q v e p o
 
 -- where errors end does not hang on how their causes read
 errors_alike : (x : List ℕ) (values second to : ℕ) → with_errors values second to (behind_count (front_failed read_cause) x) ≡ with_errors values second to (behind_count (front_failed update_cause) x)

@@ -6,20 +6,20 @@ use mathlib.Core.Path.{◌≡◌, sym, ap, ◌∙◌}
 use mathlib.Core.List.{List, [], ◌∷◌}
 use mathlib.Core.Option.{Option, none, some}
 use lib.ListN.{length}
+use Rattle.std.specs.Prelude.{Some, None, Ok, Err}
 use Rattle.meaning.specs.Octets.{part}
 use Rattle.meaning.specs.Reply.{Held, Failed}
 use Rattle.meaning.specs.Capture.{Capture, capturing, OneRecord, a_name, a_value, a_read_error, an_update, an_update_error, a_long_update, in_order, front_name, front_held, front_failed, read_cause, update_cause}
 use Rattle.meaning.proofs.Lists.{length_part}
-use Rattle.contents.specs.Spans.{span}
+use Rattle.contents.specs.Spans.{span, octets_of}
 use Rattle.contents.specs.declared.Span.{Span}
 use Rattle.contents.proofs.Between.{between}
 use Rattle.contents.proofs.Onward.{held_leaves}
 use Rattle.capture.specs.declared.Cursor.{Cursor}
 use Rattle.capture.specs.declared.Record.{Record}
 use Rattle.capture.specs.declared.Record.TheVariants.{Name, Value, ReadError, Update, UpdateError, LongUpdate}
-use Rattle.capture.specs.declared.Handed.{Handed}
 use Rattle.capture.specs.Opening.{cursor}
-use Rattle.capture.specs.Handing.{record_of, Inside, handing, valued, failed, handed_name, handed_value, handed_read_error, handed_update, handed_update_error, handed_long_update, handed_at}
+use Rattle.capture.specs.Handing.{Handed, handed, the_end, record_of, Inside, handing, valued, failed, handed_name, handed_value, handed_read_error, handed_update, handed_update_error, handed_long_update, handed_at}
 use Rattle.capture.proofs.Handouts.{nothing_next}
 use Rattle.capture.proofs.Handouts as handouts
 use Rattle.capture.proofs.OneKind.{Standing, Anywhere, name_placing, failed_placing, held_placing, name_leaves, failed_leaves, Whole, First, none_left, first_left}
@@ -37,16 +37,20 @@ pub record Holds (s : List ℕ) (c : Cursor) (r : Capture) : Type 0 where
 
 -- what comes next of the records r: one of them, and a cursor that holds the others; or there is none
 pub data Next (s : List ℕ) (c : Cursor) (r : Capture) : Type 0 where
-  ends : handed_at s c ≡ Handed.End → in_order r ≡ [] → Next s c r
-  hands : (one : Record) (c' : Cursor) (r' : Capture) → handed_at s c ≡ Handed.Record one c' → in_order r ≡ record_of s one ∷ in_order r' → Holds s c' r' → Inside s one → Next s c r
+  ends : handed_at s c ≡ the_end → in_order r ≡ [] → Next s c r
+  hands : (one : Record) (c' : Cursor) (r' : Capture) → handed_at s c ≡ handed one c' → in_order r ≡ record_of s one ∷ in_order r' → Holds s c' r' → Inside s one → Next s c r
 
--- as many octets as a record tells of its value stand in the message at the place that it tells
-pub inside-whole : (s : List ℕ) (n from size : ℕ) → (Inside s (Value n from size) → length (part s from size) ≡ size) × (Inside s (Update n from size) → length (part s from size) ≡ size) × (Inside s (LongUpdate n from size) → length (part s from size) ≡ size)
-inside-whole s n from size = (length_part s from size, length_part s from size, length_part s from size)
+-- as many octets as the span of a value has stand there in the message
+pub inside-whole : (s : List ℕ) (n : ℕ) (p : Span)
+    → (Inside s (Value n p) → length (octets_of s p) ≡ p.to - p.from) × (Inside s (Update n p) → length (octets_of s p) ≡ p.to - p.from) × (Inside s (LongUpdate n p) → length (octets_of s p) ≡ p.to - p.from)
+unfolding octets_of
+inside-whole s n p =
+    let whole = λ (i : (p.from ≤ p.to) × (p.to ≤ length s)). length_part s p.from (p.to - p.from) (omega (arith, i.0, i.1)) in
+    (whole, whole, whole)
 
 -- the first record of a span that has octets left, put into a cursor
 module _ {A : Type 0} {one : List ℕ → Option (A × List ℕ)} {P : A → ℕ → Type 0} {s : List ℕ} {p : Span} {l : List A} (f : First one P s p l) (make : ℕ → A → Record) (put : Span → Cursor) where
-  handed_first_lem : handing make put p.to (some (f.first, between s f.end p.to)) ≡ Handed.Record (make f.end f.first) (put (span f.end p.to))
+  handed_first_lem : handing make put p.to (some (f.first, between s f.end p.to)) ≡ handed (make f.end f.first) (put (span f.end p.to))
   unfolding handing
   handed_first_lem = rw f.place
 
@@ -78,8 +82,11 @@ module _ (r : Capture) where
 
 -- a value that stands where its record says
 standing_is : (s : List ℕ) (make : Held → OneRecord) (h : Held) (end : ℕ) → Standing s h end
-    → make h ≡ make (record { name = h.name; value = part s (end - length h.value) (length h.value) })
-standing_is s make h end e = ap (λ (v : List ℕ). make (record { name = h.name; value = v })) (sym e.0)
+    → make h ≡ make (record { name = h.name; value = octets_of s (span (end - length h.value) end) })
+unfolding octets_of
+standing_is s make h end e =
+    let z : end - (end - length h.value) ≡ length h.value = omega (arith, e.1) in
+    rw z (ap (λ (v : List ℕ). make (record { name = h.name; value = v })) (sym e.0))
 
 module _ (s : List ℕ) (c : Cursor) (r : Capture) (h : Holds s c r) where
   -- a kind of which no octets are left has no records left
@@ -117,13 +124,13 @@ module _ (s : List ℕ) (c : Cursor) (r : Capture) (h : Holds s c r) where
   unfolding record_of in_order handed_value valued
   value-next e0 lt =
       let f = first_left (front_held 2) (Standing s) s (held_placing s 2 (omega arith)) (held_leaves 2) c.values r.values h.values lt in
-      hands (Value f.first.name (f.end - length f.first.value) (length f.first.value)) (cursor c.names (span f.end c.values.to) c.read_errors c.updates c.update_errors c.long_updates) (capturing r.names f.others r.read_errors r.updates r.update_errors r.long_updates)
+      hands (Value f.first.name (span (f.end - length f.first.value) f.end)) (cursor c.names (span f.end c.values.to) c.read_errors c.updates c.update_errors c.long_updates) (capturing r.names f.others r.read_errors r.updates r.update_errors r.long_updates)
       (sym (handouts.value-next s c e0 lt)
       ∙ ap (handing (valued Value) (λ p. cursor c.names p c.read_errors c.updates c.update_errors c.long_updates) c.values.to) f.front
       ∙ handed_first_lem f (valued Value) (λ p. cursor c.names p c.read_errors c.updates c.update_errors c.long_updates))
       (value-first r f.first f.others (no_name e0) f.listed ∙ ap (λ (x : OneRecord). x ∷ in_order (capturing r.names f.others r.read_errors r.updates r.update_errors r.long_updates)) (standing_is s a_value f.first f.end f.placed))
       (record { names = h.names; values = f.rest; read_errors = h.read_errors; updates = h.updates; update_errors = h.update_errors; long_updates = h.long_updates })
-      (omega (arith, f.placed.1, f.placed.2))
+      (omega arith, f.placed.2)
 
   read_error_next : (e0 : c.names.to ≤ c.names.from) (e1 : c.values.to ≤ c.values.from) → c.read_errors.from < c.read_errors.to → Next s c r
   unfolding record_of in_order handed_read_error failed
@@ -141,13 +148,13 @@ module _ (s : List ℕ) (c : Cursor) (r : Capture) (h : Holds s c r) where
   unfolding record_of in_order handed_update valued
   update-next e0 e1 e2 lt =
       let f = first_left (front_held 1) (Standing s) s (held_placing s 1 (omega arith)) (held_leaves 1) c.updates r.updates h.updates lt in
-      hands (Update f.first.name (f.end - length f.first.value) (length f.first.value)) (cursor c.names c.values c.read_errors (span f.end c.updates.to) c.update_errors c.long_updates) (capturing r.names r.values r.read_errors f.others r.update_errors r.long_updates)
+      hands (Update f.first.name (span (f.end - length f.first.value) f.end)) (cursor c.names c.values c.read_errors (span f.end c.updates.to) c.update_errors c.long_updates) (capturing r.names r.values r.read_errors f.others r.update_errors r.long_updates)
       (sym (handouts.update-next s c e0 e1 e2 lt)
       ∙ ap (handing (valued Update) (λ p. cursor c.names c.values c.read_errors p c.update_errors c.long_updates) c.updates.to) f.front
       ∙ handed_first_lem f (valued Update) (λ p. cursor c.names c.values c.read_errors p c.update_errors c.long_updates))
       (update-first r f.first f.others (no_name e0) (no_value e1) (no_read_error e2) f.listed ∙ ap (λ (x : OneRecord). x ∷ in_order (capturing r.names r.values r.read_errors f.others r.update_errors r.long_updates)) (standing_is s an_update f.first f.end f.placed))
       (record { names = h.names; values = h.values; read_errors = h.read_errors; updates = f.rest; update_errors = h.update_errors; long_updates = h.long_updates })
-      (omega (arith, f.placed.1, f.placed.2))
+      (omega arith, f.placed.2)
 
   update_error_next : (e0 : c.names.to ≤ c.names.from) (e1 : c.values.to ≤ c.values.from) (e2 : c.read_errors.to ≤ c.read_errors.from) (e3 : c.updates.to ≤ c.updates.from) → c.update_errors.from < c.update_errors.to → Next s c r
   unfolding record_of in_order handed_update_error failed
@@ -165,13 +172,13 @@ module _ (s : List ℕ) (c : Cursor) (r : Capture) (h : Holds s c r) where
   unfolding record_of in_order handed_long_update valued
   long-update-next e0 e1 e2 e3 e4 lt =
       let f = first_left (front_held 2) (Standing s) s (held_placing s 2 (omega arith)) (held_leaves 2) c.long_updates r.long_updates h.long_updates lt in
-      hands (LongUpdate f.first.name (f.end - length f.first.value) (length f.first.value)) (cursor c.names c.values c.read_errors c.updates c.update_errors (span f.end c.long_updates.to)) (capturing r.names r.values r.read_errors r.updates r.update_errors f.others)
+      hands (LongUpdate f.first.name (span (f.end - length f.first.value) f.end)) (cursor c.names c.values c.read_errors c.updates c.update_errors (span f.end c.long_updates.to)) (capturing r.names r.values r.read_errors r.updates r.update_errors f.others)
       (sym (handouts.long-update-next s c e0 e1 e2 e3 e4 lt)
       ∙ ap (handing (valued LongUpdate) (λ p. cursor c.names c.values c.read_errors c.updates c.update_errors p) c.long_updates.to) f.front
       ∙ handed_first_lem f (valued LongUpdate) (λ p. cursor c.names c.values c.read_errors c.updates c.update_errors p))
       (long-update-first r f.first f.others (no_name e0) (no_value e1) (no_read_error e2) (no_update e3) (no_update_error e4) f.listed ∙ ap (λ (x : OneRecord). x ∷ in_order (capturing r.names r.values r.read_errors r.updates r.update_errors f.others)) (standing_is s a_long_update f.first f.end f.placed))
       (record { names = h.names; values = h.values; read_errors = h.read_errors; updates = h.updates; update_errors = h.update_errors; long_updates = f.rest })
-      (omega (arith, f.placed.1, f.placed.2))
+      (omega arith, f.placed.2)
 
   none_next : c.names.to ≤ c.names.from → c.values.to ≤ c.values.from → c.read_errors.to ≤ c.read_errors.from → c.updates.to ≤ c.updates.from → c.update_errors.to ≤ c.update_errors.from → c.long_updates.to ≤ c.long_updates.from → Next s c r
   unfolding in_order
@@ -215,12 +222,9 @@ with_record x (some l) = some (x ∷ l)
 
 -- by one answer: a record and those that are handed out from the cursor behind it, no more at the end, and none where the message is refused
 unfoldable pub onward : List ℕ → Handed → (Cursor → Option (List OneRecord)) → Option (List OneRecord)
-onward s (Handed.Record one c) rest = with_record (record_of s one) (rest c)
-onward s Handed.End rest = some []
-onward s Handed.MessageEmpty rest = none
-onward s Handed.MessageTooLong rest = none
-onward s Handed.TypeUnknown rest = none
-onward s Handed.CutShort rest = none
+onward s (Ok (Some h)) rest = with_record (record_of s h.0) (rest h.1)
+onward s (Ok None) rest = some []
+onward s (Err e) rest = none
 
 -- the records of the message s, handed out one after another from a cursor by n calls, where f says what is answered at each cursor; none where
 -- the n calls do not reach the end

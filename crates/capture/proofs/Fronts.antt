@@ -11,19 +11,16 @@ use mathlib.Core.Option.{Option, none, some}
 use lib.ListN.{length, drop}
 use lib.Dec.{leb}
 use borrow.Author.Tests.{le-leb, lt-leb}
+use Rattle.std.specs.Prelude.{Option as Returned, Some, None}
 use Rattle.meaning.specs.Octets.{octet, at16}
 use Rattle.meaning.specs.Reply.{Failed as OneFailed}
 use Rattle.meaning.specs.Capture.{sized, front_name, front_held, front_failed}
 use Rattle.meaning.proofs.Lists.{part-octet}
 use Rattle.contents.specs.Spans.{octets_of, spanned}
 use Rattle.contents.specs.declared.Span.{Span}
-use Rattle.contents.specs.declared.Sized.{Sized}
 use Rattle.contents.proofs.Between.{between, between-length, between-drop, part-at16}
 use Rattle.contents.proofs.Lengths.{Found, found, stands}
 use Rattle.contents.proofs.Records.{held-short, held_cut, held_found}
-use Rattle.capture.specs.declared.Named.{Named}
-use Rattle.capture.specs.declared.Held.{Held}
-use Rattle.capture.specs.declared.Failed.{Failed}
 use Rattle.capture.specs.Handing.{front_of, named_by, name_in, held_by, held_in, failed_by, failed_in}
 
 -- ---- a span that is all in the message or not, and has k octets or not
@@ -84,30 +81,30 @@ module _ (s : List ℕ) (p : Span) where
   unfolding front_name
   no_front_name h b = fixed_short 2 (λ t. at16 t 0) s p h b
 
-  pub name_found : (n : ℕ) → Fitting 2 s p → n ≡ at16 s p.from → Named.Name n ≡ name_in s p
+  pub name_found : (n : ℕ) → Fitting 2 s p → n ≡ at16 s p.from → Some n ≡ name_in s p
   unfolding name_in named_by
   name_found n f e = rw (front_name_lem f, e)
 
-  pub name-short : p.from ≤ p.to → TooShort 2 s p → Named.CutShort ≡ name_in s p
+  pub name-short : p.from ≤ p.to → TooShort 2 s p → None ≡ name_in s p
   unfolding name_in named_by
   name-short h b = rw (no_front_name h b)
 
-  abbrev NameIs : Named → Type 0
-  NameIs Named.CutShort = TooShort 2 s p
-  NameIs (Named.Name n) = Fitting 2 s p × (n ≡ at16 s p.from)
+  abbrev NameIs : Returned ℕ → Type 0
+  NameIs None = TooShort 2 s p
+  NameIs (Some n) = Fitting 2 s p × (n ≡ at16 s p.from)
 
-  name_is : p.from ≤ p.to → (r : Named) → r ≡ name_in s p → NameIs r
+  name_is : p.from ≤ p.to → (r : Returned ℕ) → r ≡ name_in s p → NameIs r
   name_is h r e =
       rw e
       (⊎_elim (λ f. rw (← name_found (at16 s p.from) f refl) (f, refl)) (λ b. rw (← name-short h b) b)
       (fits_or_not 2 s p h))
 
 module _ (s : List ℕ) (p : Span) (h : p.from ≤ p.to) where
-  pub name-told : (n : ℕ) → Named.Name n ≡ name_in s p → Fitting 2 s p × (n ≡ at16 s p.from)
-  name-told n e = name_is s p h (Named.Name n) e
+  pub name-told : (n : ℕ) → Some n ≡ name_in s p → Fitting 2 s p × (n ≡ at16 s p.from)
+  name-told n e = name_is s p h (Some n) e
 
-  pub no_name-told : Named.CutShort ≡ name_in s p → TooShort 2 s p
-  no_name-told e = name_is s p h Named.CutShort e
+  pub no_name-told : None ≡ name_in s p → TooShort 2 s p
+  no_name-told e = name_is s p h None e
 
 -- ---- an error: a name and a cause
 
@@ -124,34 +121,34 @@ module _ (cause : ℕ → ℕ) (s : List ℕ) (p : Span) where
   no_front_failed h b = fixed_short {A = OneFailed} 3 (λ t. record { name = at16 t 0; cause = cause (octet t 2) }) s p h b
 
 module _ (s : List ℕ) (p : Span) where
-  pub failed_found : (n : ℕ) → Fitting 3 s p → n ≡ at16 s p.from → Failed.Cause n (octet s (p.from + 2)) ≡ failed_in s p
+  pub failed_found : (n : ℕ) → Fitting 3 s p → n ≡ at16 s p.from → Some (n, octet s (p.from + 2)) ≡ failed_in s p
   unfolding failed_in failed_by
   failed_found n f e = rw (front_failed_lem (λ c. c) s p f, e)
 
-  pub failed-short : p.from ≤ p.to → TooShort 3 s p → Failed.CutShort ≡ failed_in s p
+  pub failed-short : p.from ≤ p.to → TooShort 3 s p → None ≡ failed_in s p
   unfolding failed_in failed_by
   failed-short h b = rw (no_front_failed (λ c. c) s p h b)
 
-  abbrev FailedIs : Failed → Type 0
-  FailedIs Failed.CutShort = TooShort 3 s p
-  FailedIs (Failed.Cause n c) = Fitting 3 s p × (n ≡ at16 s p.from) × (c ≡ octet s (p.from + 2))
+  abbrev FailedIs : Returned (ℕ × ℕ) → Type 0
+  FailedIs None = TooShort 3 s p
+  FailedIs (Some f) = Fitting 3 s p × (f.0 ≡ at16 s p.from) × (f.1 ≡ octet s (p.from + 2))
 
-  failed_is : p.from ≤ p.to → (r : Failed) → r ≡ failed_in s p → FailedIs r
+  failed_is : p.from ≤ p.to → (r : Returned (ℕ × ℕ)) → r ≡ failed_in s p → FailedIs r
   failed_is h r e =
       rw e
       (⊎_elim (λ f. rw (← failed_found (at16 s p.from) f refl) (f, refl, refl)) (λ b. rw (← failed-short h b) b)
       (fits_or_not 3 s p h))
 
 module _ (s : List ℕ) (p : Span) (h : p.from ≤ p.to) where
-  pub failed-told : (n c : ℕ) → Failed.Cause n c ≡ failed_in s p → Fitting 3 s p × (n ≡ at16 s p.from) × (c ≡ octet s (p.from + 2))
-  failed-told n c e = failed_is s p h (Failed.Cause n c) e
+  pub failed-told : (n c : ℕ) → Some (n, c) ≡ failed_in s p → Fitting 3 s p × (n ≡ at16 s p.from) × (c ≡ octet s (p.from + 2))
+  failed-told n c e = failed_is s p h (Some (n, c)) e
 
   -- where not even a name is
-  pub failed_no_name : Named.CutShort ≡ name_in s p → Failed.CutShort ≡ failed_in s p
+  pub failed_no_name : None ≡ name_in s p → None ≡ failed_in s p
   failed_no_name e = failed-short s p h (too_short-more 2 3 s p (omega arith) (no_name-told s p h e))
 
-  pub no_failed-told : Failed.CutShort ≡ failed_in s p → TooShort 3 s p
-  no_failed-told e = failed_is s p h Failed.CutShort e
+  pub no_failed-told : None ≡ failed_in s p → TooShort 3 s p
+  no_failed-told e = failed_is s p h None e
 
 -- ---- a name and a value with a length of w octets
 
@@ -164,43 +161,43 @@ module _ (w : ℕ) (s : List ℕ) (p : Span) where
       × (v.to ≤ p.to)
       × (p.to ≤ length s)
 
-  front_held_lem : (n : ℕ) (v : Span) → Fitting 2 s p → n ≡ at16 s p.from → Found s (p.from + 2) p.to w (Sized.Octets v) → Holding n v
+  front_held_lem : (n : ℕ) (v : Span) → Fitting 2 s p → n ≡ at16 s p.from → Found s (p.from + 2) p.to w (Some v) → Holding n v
   front_held_lem n v f e g = (front_in (front_held w) s p f.0 ∙ rw (held_found s p.from p.to w f.0 f.1 v g, e), g.2, g.3, f.0)
 
-  no_front_held : Fitting 2 s p → Found s (p.from + 2) p.to w Sized.CutShort → front_of (front_held w) s p ≡ none
+  no_front_held : Fitting 2 s p → Found s (p.from + 2) p.to w None → front_of (front_held w) s p ≡ none
   no_front_held f g = front_in (front_held w) s p f.0 ∙ held_cut s p.from p.to w f.0 f.1 g
 
   short-held : p.from ≤ p.to → 1 ≤ w → TooShort 2 s p → front_of (front_held w) s p ≡ none
   short-held h g =
       ⊎_elim (front_out (front_held w) s p) (λ b. front_in (front_held w) s p b.0 ∙ held-short s p.from p.to w b.0 h b.1 g)
 
-  held_none : front_of (front_held w) s p ≡ none → Held.CutShort ≡ held_in w s p
+  held_none : front_of (front_held w) s p ≡ none → None ≡ held_in w s p
   unfolding held_in held_by
   held_none e = rw e
 
-  held_some : (n : ℕ) (v : Span) → Holding n v → Held.Value n v ≡ held_in w s p
+  held_some : (n : ℕ) (v : Span) → Holding n v → Some (n, v) ≡ held_in w s p
   unfolding held_in held_by
   held_some n v f = rw (f.0, stands s v p.to f.1 f.2 f.3)
 
-  pub value_found : (n : ℕ) (v : Span) → Fitting 2 s p → n ≡ at16 s p.from → Found s (p.from + 2) p.to w (Sized.Octets v) → Held.Value n v ≡ held_in w s p
+  pub value_found : (n : ℕ) (v : Span) → Fitting 2 s p → n ≡ at16 s p.from → Found s (p.from + 2) p.to w (Some v) → Some (n, v) ≡ held_in w s p
   value_found n v f e g = held_some n v (front_held_lem n v f e g)
 
-  pub value_cut : Fitting 2 s p → Found s (p.from + 2) p.to w Sized.CutShort → Held.CutShort ≡ held_in w s p
+  pub value_cut : Fitting 2 s p → Found s (p.from + 2) p.to w None → None ≡ held_in w s p
   value_cut f g = held_none (no_front_held f g)
 
-  pub value-short : p.from ≤ p.to → 1 ≤ w → TooShort 2 s p → Held.CutShort ≡ held_in w s p
+  pub value-short : p.from ≤ p.to → 1 ≤ w → TooShort 2 s p → None ≡ held_in w s p
   value-short h g b = held_none (short-held h g b)
 
-  abbrev HeldIs : Held → Type 0
-  HeldIs Held.CutShort = front_of (front_held w) s p ≡ none
-  HeldIs (Held.Value n v) = Holding n v
+  abbrev HeldIs : Returned (ℕ × Span) → Type 0
+  HeldIs None = front_of (front_held w) s p ≡ none
+  HeldIs (Some h) = Holding h.0 h.1
 
-  held_is : p.from ≤ p.to → 1 ≤ w → (r : Held) → r ≡ held_in w s p → HeldIs r
+  held_is : p.from ≤ p.to → 1 ≤ w → (r : Returned (ℕ × Span)) → r ≡ held_in w s p → HeldIs r
   held_is h g r e = rw e (⊎_elim fitting (λ b. rw (← value-short h g b) (short-held h g b)) (fits_or_not 2 s p h))
     where
-      known : Fitting 2 s p → (o : Sized) → Found s (p.from + 2) p.to w o → HeldIs (held_in w s p)
-      known f Sized.CutShort k = rw (← value_cut f k) (no_front_held f k)
-      known f (Sized.Octets v) k =
+      known : Fitting 2 s p → (o : Returned Span) → Found s (p.from + 2) p.to w o → HeldIs (held_in w s p)
+      known f None k = rw (← value_cut f k) (no_front_held f k)
+      known f (Some v) k =
           let there = front_held_lem (at16 s p.from) v f refl k in
           rw (← held_some (at16 s p.from) v there) there
 
@@ -208,8 +205,8 @@ module _ (w : ℕ) (s : List ℕ) (p : Span) where
       fitting f = known f (spanned p.to (sized w (between s (p.from + 2) p.to))) (found s (p.from + 2) p.to w f.1 f.0 _ refl)
 
 module _ (w : ℕ) (s : List ℕ) (p : Span) (h : p.from ≤ p.to) (g : 1 ≤ w) where
-  pub held-told : (n : ℕ) (v : Span) → Held.Value n v ≡ held_in w s p → Holding w s p n v
-  held-told n v e = held_is w s p h g (Held.Value n v) e
+  pub held-told : (n : ℕ) (v : Span) → Some (n, v) ≡ held_in w s p → Holding w s p n v
+  held-told n v e = held_is w s p h g (Some (n, v)) e
 
-  pub no_held-told : Held.CutShort ≡ held_in w s p → front_of (front_held w) s p ≡ none
-  no_held-told e = held_is w s p h g Held.CutShort e
+  pub no_held-told : None ≡ held_in w s p → front_of (front_held w) s p ≡ none
+  no_held-told e = held_is w s p h g None e

@@ -1,5 +1,6 @@
 -- Laws of what a message hands out, which the proofs of the functions cite.
 pub mod Fronts
+pub mod CutShort
 pub mod Causes
 pub mod Handouts
 pub mod Openings

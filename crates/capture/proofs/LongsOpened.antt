@@ -10,12 +10,12 @@ use mathlib.Core.Option.{Option, none, some}
 use lib.ListN.{length}
 use lib.Dec.{leb}
 use borrow.Author.Tests.{eq-eqb, ne_eqb, le-leb}
+use Rattle.std.specs.Prelude.{Option as Returned, Some, None}
 use Rattle.meaning.specs.Octets.{at16}
 use Rattle.meaning.specs.Reply.{Held}
 use Rattle.meaning.specs.Capture.{then_read, sized, front_name, front_held, until_end_in, until_end, exactly, longs_in}
 use Rattle.contents.specs.Spans.{span, octets_of, spanned, is_whole}
 use Rattle.contents.specs.declared.Span.{Span}
-use Rattle.contents.specs.declared.Sized.{Sized}
 use Rattle.contents.proofs.Between.{between, between_none, between_front}
 use Rattle.contents.proofs.Lengths.{Found, found, stands}
 use Rattle.capture.specs.Opening.{longs_of, longs_at}
@@ -50,12 +50,12 @@ names_even c = even_in (length c) c (omega arith)
 pub record LongsOpen (s : List ℕ) (at to : ℕ) (t : List ℕ) : Type 0 where
   pub longs : Span
   pub ls : List Held
-  pub opened : longs_at s at to ≡ Sized.Octets longs
+  pub opened : longs_at s at to ≡ Some longs
   pub read : longs_in t ≡ some ls
   pub whole : Whole (front_held 2) s longs ls
 
 abbrev pub LongsOpens : List ℕ → ℕ → ℕ → List ℕ → Type 0
-LongsOpens s at to t = ((longs_at s at to ≡ Sized.CutShort) × (longs_in t ≡ none)) ⊎ LongsOpen s at to t
+LongsOpens s at to t = ((longs_at s at to ≡ None) × (longs_in t ≡ none)) ⊎ LongsOpen s at to t
 
 -- nothing stands there
 longs_none : (s : List ℕ) (to : ℕ) → to ≤ length s → LongsOpens s to to []
@@ -75,13 +75,13 @@ module _ (s : List ℕ) (at to : ℕ) (x : ℕ) (r : List ℕ) (h : at < to) (l 
   unfolding longs_at
   opened_is = rw (ne_eqb at to (λ z. omega (arith, z, h)), e)
 
-  module _ (p : Span) (f : Found s at to 2 (Sized.Octets p)) where
+  module _ (p : Span) (f : Found s at to 2 (Some p)) where
     sized_is : sized 2 (x ∷ r) ≡ some (octets_of s p, between s p.to to)
     sized_is = sym (ap (sized 2) e) ∙ f.0
 
-    opened_by : longs_at s at to ≡ longs_of s to (Sized.Octets p)
+    opened_by : longs_at s at to ≡ longs_of s to (Some p)
     unfolding spanned
-    opened_by = opened_is ∙ ap (longs_of s to) (ap (spanned to) sized_is ∙ ap Sized.Octets (stands s p to f.2 f.3 l))
+    opened_by = opened_is ∙ ap (longs_of s to) (ap (spanned to) sized_is ∙ ap Some (stands s p to f.2 f.3 l))
 
     read_by : longs_in (x ∷ r) ≡ then_read (exactly (octets_of s p, between s p.to to)) (until_end (front_held 2))
     unfolding longs_in then_read
@@ -106,12 +106,12 @@ module _ (s : List ℕ) (at to : ℕ) (x : ℕ) (r : List ℕ) (h : at < to) (l 
     unfolding longs_of then_read exactly
     left_over z = inl (opened_by ∙ rw (ne_eqb p.to to (λ y. omega (arith, y, z))), read_by ∙ rw (between_front s p.to to l z))
 
-  by_length : (o : Sized) → Found s at to 2 o → LongsOpens s at to (x ∷ r)
+  by_length : (o : Returned Span) → Found s at to 2 o → LongsOpens s at to (x ∷ r)
   unfolding longs_of spanned longs_in then_read
-  by_length Sized.CutShort f =
+  by_length None f =
       let g : sized 2 (x ∷ r) ≡ none = sym (ap (sized 2) e) ∙ f in
       inl (opened_is ∙ rw g, rw g)
-  by_length (Sized.Octets p) f = go (ℕ_discrete p.to to)
+  by_length (Some p) f = go (ℕ_discrete p.to to)
     where
       go : Dec (p.to ≡ to) → LongsOpens s at to (x ∷ r)
       go (yes z) = by_whole p f z (until_end (front_held 2) (octets_of s p)) refl

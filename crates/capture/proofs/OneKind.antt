@@ -9,6 +9,7 @@ use mathlib.Core.Option.{Option, none, some}
 use lib.ListN.{length, drop, length-drop}
 use lib.Dec.{leb}
 use borrow.Author.Tests.{le-leb, leb-true}
+use Rattle.std.specs.Prelude.{Option as Returned, Some, None}
 use Rattle.meaning.specs.Octets.{octet, at16, part}
 use Rattle.meaning.specs.Reply.{Held, Failed}
 use Rattle.meaning.specs.Capture.{then_read, sized, front_name, front_held, front_failed, until_end_in, until_end}
@@ -16,7 +17,6 @@ use Rattle.meaning.proofs.Walked.{Leaving}
 use Rattle.meaning.proofs.Backwards.{then_came, cond_came, some_same}
 use Rattle.contents.specs.Spans.{span, octets_of, spanned}
 use Rattle.contents.specs.declared.Span.{Span}
-use Rattle.contents.specs.declared.Sized.{Sized}
 use Rattle.contents.proofs.Between.{between, between_none, between-length, between-drop, between_front}
 use Rattle.contents.proofs.Lengths.{Found, found}
 use Rattle.contents.proofs.Records.{held-short, held_cut, held_found}
@@ -71,7 +71,7 @@ module _ (s : List ℕ) where
         placed = tt;
       }
 
-  held_ends : (w from to : ℕ) (p : Span) → from ≤ to → to ≤ length s → (h : Held) (behind : List ℕ) → Found s (from + 2) to w (Sized.Octets p)
+  held_ends : (w from to : ℕ) (p : Span) → from ≤ to → to ≤ length s → (h : Held) (behind : List ℕ) → Found s (from + 2) to w (Some p)
       → ◌≡◌ {A = Held × List ℕ} (record { name = at16 s from; value = octets_of s p }, between s p.to to) (h, behind) → Ends (Standing s) s from to h behind
   unfolding octets_of
   held_ends w from to p f l h behind k e =
@@ -89,9 +89,9 @@ module _ (s : List ℕ) where
   pub held_placing : (w : ℕ) → 1 ≤ w → Placing (front_held w) (Standing s) s
   held_placing w g from to h l a behind e = go (dec_le (from + 2) to)
     where
-      known : from + 2 ≤ to → (r : Sized) → Found s (from + 2) to w r → Ends (Standing s) s from to a behind
-      known b Sized.CutShort f = absurd (let z : ◌≡◌ {A = ℕ} 0 1 = cc (held_cut s from to w l b f) in omega arith)
-      known b (Sized.Octets p) f = held_ends w from to p h l a behind f (some_same (sym (held_found s from to w l b p f) ∙ e))
+      known : from + 2 ≤ to → (r : Returned Span) → Found s (from + 2) to w r → Ends (Standing s) s from to a behind
+      known b None f = absurd (let z : ◌≡◌ {A = ℕ} 0 1 = cc (held_cut s from to w l b f) in omega arith)
+      known b (Some p) f = held_ends w from to p h l a behind f (some_same (sym (held_found s from to w l b p f) ∙ e))
 
       go : Dec (from + 2 ≤ to) → Ends (Standing s) s from to a behind
       go (yes b) = known b (spanned to (sized w (between s (from + 2) to))) (found s (from + 2) to w b l _ refl)

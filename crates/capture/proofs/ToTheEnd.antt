@@ -10,6 +10,7 @@ use mathlib.Core.List.{List, [], append-nil}
 use mathlib.Core.Option.{Option, none, some}
 use lib.ListN.{length, drop}
 use borrow.Author.Tests.{le-leb, lt-leb, leb-true, le-ltb, eqb-false}
+use Rattle.std.specs.Prelude.{Option as Returned, Some, None}
 use Rattle.meaning.specs.Octets.{octet}
 use Rattle.meaning.specs.Reply.{Held as OneHeld, Failed as OneFailed}
 use Rattle.meaning.specs.Checks.{first_failed, when_passed}
@@ -19,29 +20,27 @@ use Rattle.meaning.proofs.Lists.{Octets}
 use Rattle.meaning.proofs.Tests.{first-passed}
 use Rattle.contents.specs.Spans.{octets_of, spanned, of_walk, walked}
 use Rattle.contents.specs.declared.Span.{Span}
-use Rattle.contents.specs.declared.Sized.{Sized}
 use Rattle.contents.proofs.Between.{between, between_end}
 use Rattle.contents.proofs.Lengths.{Found, found, stands}
 use Rattle.capture.specs.declared.Cursor.{Cursor}
-use Rattle.capture.specs.declared.Handed.{Handed}
-use Rattle.capture.specs.declared.Opened.{Opened}
-use Rattle.capture.specs.Opening.{cursor, nothing_left, when_left, of_elements, opened_status, opened_reply, of_contents, opened_notification}
-use Rattle.capture.specs.Handing.{number_of, handed_at, of_opened, handed_first}
+use Rattle.capture.specs.Opening.{cursor, nothing_left, of_elements, opened_status, opened_reply, of_contents, opened_notification}
+use Rattle.capture.specs.declared.Refusal.TheVariants.{MessageEmpty, MessageTooLong, TypeUnknown, CutShort}
+use Rattle.capture.specs.Handing.{Handed, refused as refused_with, refusal_number, number_of, handed_at, of_opened, handed_first}
 use Rattle.capture.proofs.Openings.{first_empty, first_too_long, first_unknown}
 use Rattle.capture.proofs.WalksAgree.{Same, Agree, elements_agree}
 use Rattle.capture.proofs.ElementsOpened.{empty, empty_whole, NamesOpens, NamesOpen, names-opens, StatusOpens, StatusOpen, status-opens, ResultOpens, result-opens}
 use Rattle.capture.proofs.FromCursor.{Holds, Next, ends, hands, next, onward, handed_out, from-cursor}
 
 -- what is opened and what is read: both refused, or the cursor holds exactly the records
-pub record Held (s : List ℕ) (x : Opened) (o : Option Capture) : Type 0 where
+pub record Held (s : List ℕ) (x : Returned Cursor) (o : Option Capture) : Type 0 where
   pub left : Cursor
   pub records : Capture
-  pub opened : x ≡ Opened.Left left
+  pub opened : x ≡ Some left
   pub read : o ≡ some records
   pub holds : Holds s left records
 
-abbrev pub Alike : List ℕ → Opened → Option Capture → Type 0
-Alike s x o = ((x ≡ Opened.CutShort) × (o ≡ none)) ⊎ Held s x o
+abbrev pub Alike : List ℕ → Returned Cursor → Option Capture → Type 0
+Alike s x o = ((x ≡ None) × (o ≡ none)) ⊎ Held s x o
 
 -- three captures, each of one element's kinds, are one
 merged-kinds : (n : List ℕ) (v : List OneHeld) (e : List OneFailed) (u : List OneHeld) (f : List OneFailed) (l : List OneHeld)
@@ -54,7 +53,7 @@ module _ (s : List ℕ) (octets : Octets s) where
   module _ (k : Elements Span) (m : Elements (Option (List ℕ))) (h : Same s k m) where
     by_result : (n : NamesOpen s k.names m.names) (t : StatusOpen s n.names k.status m.status) → ResultOpens s n.names t.values t.errors k.result m.result
         → Alike s (of_elements s (of_walk (some k))) (meaning.of_elements m)
-    unfolding of_elements of_walk when_left meaning.of_elements then_read
+    unfolding of_elements of_walk meaning.of_elements then_read
     by_result n t (inl r) = inl (rw (n.opened, t.opened, r.0), rw (n.read, t.read, r.1))
     by_result n t (inr r) =
         inr
@@ -74,12 +73,12 @@ module _ (s : List ℕ) (octets : Octets s) where
         })
 
     by_status : (n : NamesOpen s k.names m.names) → StatusOpens s n.names k.status m.status → Alike s (of_elements s (of_walk (some k))) (meaning.of_elements m)
-    unfolding of_elements of_walk when_left meaning.of_elements then_read
+    unfolding of_elements of_walk meaning.of_elements then_read
     by_status n (inl t) = inl (rw (n.opened, t.0), rw (n.read, t.1))
     by_status n (inr t) = by_result n t (result-opens s octets n.names t.values t.errors k.result m.result h.result)
 
     by_names : NamesOpens s k.names m.names → Alike s (of_elements s (of_walk (some k))) (meaning.of_elements m)
-    unfolding of_elements of_walk when_left meaning.of_elements then_read
+    unfolding of_elements of_walk meaning.of_elements then_read
     by_names (inl n) = inl (rw n.0, rw n.1)
     by_names (inr n) = by_status n (status-opens s octets n.names k.status m.status h.status)
 
@@ -115,12 +114,12 @@ module _ (s : List ℕ) (octets : Octets s) where
         };
       })
 
-  by_contents : 1 ≤ length s → (x : Sized) → Found s 1 (length s) 2 x → Alike s (of_contents s (spanned (length s) (sized 2 (drop 1 s)))) (then_read (sized 2 (drop 1 s)) (λ c. status_in c.0))
+  by_contents : 1 ≤ length s → (x : Returned Span) → Found s 1 (length s) 2 x → Alike s (of_contents s (spanned (length s) (sized 2 (drop 1 s)))) (then_read (sized 2 (drop 1 s)) (λ c. status_in c.0))
   unfolding of_contents spanned then_read
-  by_contents h Sized.CutShort f =
+  by_contents h None f =
       let g : sized 2 (drop 1 s) ≡ none = ap (sized 2) (sym (between_end s 1)) ∙ f in
       inl (rw g, rw g)
-  by_contents h (Sized.Octets p) f =
+  by_contents h (Some p) f =
       let g : sized 2 (drop 1 s) ≡ some (octets_of s p, between s p.to (length s)) = ap (sized 2) (sym (between_end s 1)) ∙ f.0 in
       rw (g, stands s p (length s) f.2 f.3 (omega arith))
       (by_status-alone p (status-opens s octets empty p (some (octets_of s p)) (refl, omega (arith, f.1, f.2), f.2, f.3)))
@@ -148,7 +147,7 @@ module _ (s : List ℕ) where
     first_opened t = rw (le-ltb (length s) 1 h, le-ltb 4096 (length s) l) (go (is_reply s) (is_notification s) t)
       where
         go : (a b : Bool) → (a || b) ≡ true
-            → cond a (of_opened s (opened_reply s)) (cond b (of_opened s (opened_notification s)) Handed.TypeUnknown) ≡ of_opened s (cond a (opened_reply s) (opened_notification s))
+            → cond a (of_opened s (opened_reply s)) (cond b (of_opened s (opened_notification s)) (refused_with TypeUnknown)) ≡ of_opened s (cond a (opened_reply s) (opened_notification s))
         go true b e = refl
         go false true e = refl
         go false false e = absurd (false≢true e)
@@ -204,9 +203,9 @@ module _ (s : List ℕ) (octets : Octets s) (f : Cursor → Handed) (each : (c :
     unfolding capture capture_checks first_failed when_passed or_nothing
     captured_some r e = rw (le-leb 1 (length s) h, le-leb (length s) 4096 l, t, e)
 
-    by_opened : (x : Opened) → Alike s x (contained s) → Answers (of_opened s x)
-    unfolding of_opened number_of onward
-    by_opened x (inl a) = rw a.0 (refused Handed.CutShort 13 (captured_none a.1) refl (λ rest. refl))
+    by_opened : (x : Returned Cursor) → Alike s x (contained s) → Answers (of_opened s x)
+    unfolding of_opened number_of refusal_number onward
+    by_opened x (inl a) = rw a.0 (refused (refused_with CutShort) 13 (captured_none a.1) refl (λ rest. refl))
     by_opened x (inr a) = rw a.opened (accepted a.left a.records (captured_some a.records a.read) a.holds)
 
   by_type : 1 ≤ length s → length s ≤ 4096 → Answers (handed_first s)
@@ -215,14 +214,14 @@ module _ (s : List ℕ) (octets : Octets s) (f : Cursor → Handed) (each : (c :
       go : (a : Bool) → is_reply s ≡ a → (b : Bool) → is_notification s ≡ b → Answers (handed_first s)
       go true p b q = let t : (is_reply s || is_notification s) ≡ true = rw p in rw (first_opened s h l t) (by_opened h l t _ (opened_alike s octets h))
       go false p true q = let t : (is_reply s || is_notification s) ≡ true = rw (p, q) in rw (first_opened s h l t) (by_opened h l t _ (opened_alike s octets h))
-      go false p false q = rw (sym (first_unknown s h l (eqb-false (octet s 0) 2 (unfold is_reply in p)) (eqb-false (octet s 0) 3 (unfold is_notification in q)))) (refused Handed.TypeUnknown 12 (unknown h l p q) (unfold number_of in refl) (λ rest. unfold onward in refl))
+      go false p false q = rw (sym (first_unknown s h l (eqb-false (octet s 0) 2 (unfold is_reply in p)) (eqb-false (octet s 0) 3 (unfold is_notification in q)))) (refused (refused_with TypeUnknown) 12 (unknown h l p q) (unfold number_of refusal_number in refl) (λ rest. unfold onward in refl))
 
   answers : Answers (handed_first s)
   answers = go (dec_le 1 (length s)) (dec_le (length s) 4096)
     where
       go : Dec (1 ≤ length s) → Dec (length s ≤ 4096) → Answers (handed_first s)
-      go (no h) l = rw (sym (first_empty s (omega arith))) (refused Handed.MessageEmpty 1 (empty_message (omega arith)) (unfold number_of in refl) (λ rest. unfold onward in refl))
-      go (yes h) (no l) = rw (sym (first_too_long s h (omega arith))) (refused Handed.MessageTooLong 2 (too_long h (omega arith)) (unfold number_of in refl) (λ rest. unfold onward in refl))
+      go (no h) l = rw (sym (first_empty s (omega arith))) (refused (refused_with MessageEmpty) 1 (empty_message (omega arith)) (unfold number_of refusal_number in refl) (λ rest. unfold onward in refl))
+      go (yes h) (no l) = rw (sym (first_too_long s h (omega arith))) (refused (refused_with MessageTooLong) 2 (too_long h (omega arith)) (unfold number_of refusal_number in refl) (λ rest. unfold onward in refl))
       go (yes h) (yes l) = by_type h l
 
   -- the first answer as the contract of `first` gives it, each further one as that of `next` does

@@ -10,12 +10,12 @@ use mathlib.Core.Option.{Option, none, some}
 use lib.ListN.{length, drop, drop_of_length-le}
 use lib.Seq.{drop-cons}
 use lib.Dec.{eqb}
+use Rattle.std.specs.Prelude.{Option as Returned, Some, None}
 use Rattle.meaning.specs.Octets.{octet}
 use Rattle.meaning.specs.Capture.{then_read, sized, length_octets, Elements, is_read, keeping, elements_in, elements_of}
 use Rattle.meaning.proofs.Skipped.{kept_of, unread}
 use Rattle.contents.specs.Spans.{span, octets_of, standing, spanned}
 use Rattle.contents.specs.declared.Span.{Span}
-use Rattle.contents.specs.declared.Sized.{Sized}
 use Rattle.contents.proofs.Between.{between, between_end}
 use Rattle.contents.proofs.Lengths.{Found, found, stands}
 
@@ -63,12 +63,12 @@ module _ (s : List ℕ) where
   -- one element, with what comes behind it known
   turn : (n at : ℕ) (k : Elements Span) (m : Elements (Option (List ℕ))) → at < length s → Same s k m
       → ((next : ℕ) (k' : Elements Span) (m' : Elements (Option (List ℕ))) → next ≤ length s → Same s k' m' → Agree s (elements_in (standing (length s)) n k' (drop next s)) (elements_in kept_of n m' (drop next s)))
-      → (r : Sized) → Found s (at + 1) (length s) (length_octets (octet s at)) r
+      → (r : Returned Span) → Found s (at + 1) (length s) (length_octets (octet s at)) r
       → Agree s (then_read (sized (length_octets (octet s at)) (between s (at + 1) (length s))) (λ e. elements_in (standing (length s)) n (keeping k (octet s at) (standing (length s) e.0 e.1)) e.1))
       (then_read (sized (length_octets (octet s at)) (between s (at + 1) (length s))) (λ e. elements_in kept_of n (keeping m (octet s at) (some e.0)) e.1))
   unfolding then_read
-  turn n at k m l h ih Sized.CutShort f = rw f tt
-  turn n at k m l h ih (Sized.Octets p) f =
+  turn n at k m l h ih None f = rw f tt
+  turn n at k m l h ih (Some p) f =
       rw (f.0, stands s p (length s) f.2 f.3 (omega arith), between_end s p.to)
       (ih p.to (keeping k (octet s at) p) (keeping m (octet s at) (some (octets_of s p))) f.3
       (same-keeping k m (octet s at) p (octets_of s p) h (refl, omega (arith, f.1, f.2), f.2, f.3)))

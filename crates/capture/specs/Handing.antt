@@ -1,10 +1,9 @@
 -- What a message hands out at a cursor, for every message and every cursor: the record at the front of the first span that has octets left, as
 -- `Capture` of `meaning` reads it there, and the cursor without it.
-use Rattle.std.specs.Prelude.{ℕ, ◌+◌, ◌-◌, ◌≤◌, cond, List, length, leb, ltb}
+use Rattle.std.specs.Prelude.{ℕ, ◌-◌, ◌≤◌, cond, List, length, leb, ltb, Option as Returned, Some, None, Result, Ok, Err}
 use Rattle.std.proofs.Math.Option.{Option, none, some}
 use Rattle.meaning.specs.Reply.{Held as OneHeld, Failed as OneFailed}
 use Rattle.meaning.specs.Wire.{reply_most}
-use Rattle.meaning.specs.Octets.{part}
 use Rattle.meaning.specs.Capture.{OneRecord, a_name, a_value, a_read_error, an_update, an_update_error, a_long_update, front_name, front_held, front_failed, read_cause, update_cause, is_reply, is_notification}
 use Rattle.contents.specs.Spans.{span, octets_of, standing}
 use Rattle.contents.specs.declared.Span.{Span}
@@ -12,40 +11,52 @@ use Rattle.capture.specs.Opening.{cursor, opened_reply, opened_notification}
 use Rattle.capture.specs.declared.Cursor.{Cursor}
 use Rattle.capture.specs.declared.Record.{Record}
 use Rattle.capture.specs.declared.Record.TheVariants.{Name, Value, ReadError, Update, UpdateError, LongUpdate}
-use Rattle.capture.specs.declared.Handed.{Handed}
-use Rattle.capture.specs.declared.Opened.{Opened}
-use Rattle.capture.specs.declared.Named.{Named}
-use Rattle.capture.specs.declared.Held.{Held}
-use Rattle.capture.specs.declared.Failed.{Failed}
+use Rattle.capture.specs.declared.Refusal.{Refusal}
+use Rattle.capture.specs.declared.Refusal.TheVariants.{MessageEmpty, MessageTooLong, TypeUnknown, CutShort}
 
--- the number of what is handed out (RULES 20.4)
+-- what is handed out: a record and the cursor behind it, the end, or why the message is refused
+abbrev pub Handed : Type 0
+Handed = Result (Returned (Record × Cursor)) Refusal
+
+abbrev pub handed : Record → Cursor → Handed
+handed r c = Ok (Some (r, c))
+
+abbrev pub the_end : Handed
+the_end = Ok None
+
+abbrev pub refused : Refusal → Handed
+refused e = Err e
+
+-- its number (RULES 20.4)
+unfoldable pub refusal_number : Refusal → ℕ
+refusal_number MessageEmpty = 2
+refusal_number MessageTooLong = 3
+refusal_number TypeUnknown = 13
+refusal_number CutShort = 14
+
 unfoldable pub number_of : Handed → ℕ
-number_of (Handed.Record r c) = 0
-number_of Handed.End = 0
-number_of Handed.MessageEmpty = 2
-number_of Handed.MessageTooLong = 3
-number_of Handed.TypeUnknown = 13
-number_of Handed.CutShort = 14
+number_of (Ok h) = 0
+number_of (Err e) = refusal_number e
 
 -- ---- a record of the message s
 
 -- as one of `meaning`: its value is a part of the message
 unfoldable pub record_of : List ℕ → Record → OneRecord
 record_of s (Name n) = a_name n
-record_of s (Value n from size) = a_value (record { name = n; value = part s from size })
+record_of s (Value n p) = a_value (record { name = n; value = octets_of s p })
 record_of s (ReadError n c) = a_read_error (record { name = n; cause = c })
-record_of s (Update n from size) = an_update (record { name = n; value = part s from size })
+record_of s (Update n p) = an_update (record { name = n; value = octets_of s p })
 record_of s (UpdateError n c) = an_update_error (record { name = n; cause = c })
-record_of s (LongUpdate n from size) = a_long_update (record { name = n; value = part s from size })
+record_of s (LongUpdate n p) = a_long_update (record { name = n; value = octets_of s p })
 
 -- the value of a record lies in the message
 abbrev pub Inside : List ℕ → Record → Type 0
 Inside s (Name n) = Unit {0}
-Inside s (Value n from size) = from + size ≤ length s
+Inside s (Value n p) = (p.from ≤ p.to) × (p.to ≤ length s)
 Inside s (ReadError n c) = Unit {0}
-Inside s (Update n from size) = from + size ≤ length s
+Inside s (Update n p) = (p.from ≤ p.to) × (p.to ≤ length s)
 Inside s (UpdateError n c) = Unit {0}
-Inside s (LongUpdate n from size) = from + size ≤ length s
+Inside s (LongUpdate n p) = (p.from ≤ p.to) × (p.to ≤ length s)
 
 -- ---- the front of a span
 
@@ -53,37 +64,37 @@ Inside s (LongUpdate n from size) = from + size ≤ length s
 unfoldable pub front_of : {A : Type 0} → (List ℕ → Option (A × List ℕ)) → List ℕ → Span → Option (A × List ℕ)
 front_of one s p = cond (leb p.to (length s)) (one (octets_of s p)) none
 
-unfoldable pub named_by : Option (ℕ × List ℕ) → Named
-named_by none = Named.CutShort
-named_by (some r) = Named.Name r.0
+unfoldable pub named_by : Option (ℕ × List ℕ) → Returned ℕ
+named_by none = None
+named_by (some r) = Some r.0
 
-unfoldable pub name_in : List ℕ → Span → Named
+unfoldable pub name_in : List ℕ → Span → Returned ℕ
 name_in s p = named_by (front_of front_name s p)
 
-unfoldable pub held_by : ℕ → Option (OneHeld × List ℕ) → Held
-held_by to none = Held.CutShort
-held_by to (some r) = Held.Value r.0.name (standing to r.0.value r.1)
+unfoldable pub held_by : ℕ → Option (OneHeld × List ℕ) → Returned (ℕ × Span)
+held_by to none = None
+held_by to (some r) = Some (r.0.name, standing to r.0.value r.1)
 
-unfoldable pub held_in : ℕ → List ℕ → Span → Held
+unfoldable pub held_in : ℕ → List ℕ → Span → Returned (ℕ × Span)
 held_in w s p = held_by p.to (front_of (front_held w) s p)
 
-unfoldable pub failed_by : Option (OneFailed × List ℕ) → Failed
-failed_by none = Failed.CutShort
-failed_by (some r) = Failed.Cause r.0.name r.0.cause
+unfoldable pub failed_by : Option (OneFailed × List ℕ) → Returned (ℕ × ℕ)
+failed_by none = None
+failed_by (some r) = Some (r.0.name, r.0.cause)
 
-unfoldable pub failed_in : List ℕ → Span → Failed
+unfoldable pub failed_in : List ℕ → Span → Returned (ℕ × ℕ)
 failed_in s p = failed_by (front_of (front_failed (λ c. c)) s p)
 
 -- ---- what is handed out
 
 -- a record of what is at the front of a span that ends at a place, with the rest of that span put into the cursor
 unfoldable pub handing : {A : Type 0} → (ℕ → A → Record) → (Span → Cursor) → ℕ → Option (A × List ℕ) → Handed
-handing make put to none = Handed.CutShort
-handing make put to (some r) = Handed.Record (make (to - length r.1) r.0) (put (span (to - length r.1) to))
+handing make put to none = refused CutShort
+handing make put to (some r) = handed (make (to - length r.1) r.0) (put (span (to - length r.1) to))
 
 -- a value, which ends at a place
-unfoldable pub valued : (ℕ → ℕ → ℕ → Record) → ℕ → OneHeld → Record
-valued make end h = make h.name (end - length h.value) (length h.value)
+unfoldable pub valued : (ℕ → Span → Record) → ℕ → OneHeld → Record
+valued make end h = make h.name (span (end - length h.value) end)
 
 unfoldable pub failed : (ℕ → ℕ → Record) → ℕ → OneFailed → Record
 failed make end f = make f.name f.cause
@@ -131,18 +142,18 @@ handed_at s c =
     (if_left c.updates (handed_update s c)
     (if_left c.update_errors (handed_update_error s c)
     (if_left c.long_updates (handed_long_update s c)
-    Handed.End)))))
+    the_end)))))
 
 -- ---- the first of a message
 
-unfoldable pub of_opened : List ℕ → Opened → Handed
-of_opened s Opened.CutShort = Handed.CutShort
-of_opened s (Opened.Left c) = handed_at s c
+unfoldable pub of_opened : List ℕ → Returned Cursor → Handed
+of_opened s None = refused CutShort
+of_opened s (Some c) = handed_at s c
 
 unfoldable pub handed_first : List ℕ → Handed
 handed_first s =
-    cond (ltb (length s) 1) Handed.MessageEmpty
-    (cond (ltb reply_most (length s)) Handed.MessageTooLong
+    cond (ltb (length s) 1) (refused MessageEmpty)
+    (cond (ltb reply_most (length s)) (refused MessageTooLong)
     (cond (is_reply s) (of_opened s (opened_reply s))
     (cond (is_notification s) (of_opened s (opened_notification s))
-    Handed.TypeUnknown)))
+    (refused TypeUnknown))))

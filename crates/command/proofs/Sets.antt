@@ -3,13 +3,13 @@ use Prim.Native.Nat.{ℕ, zero, suc, ◌+◌, ◌≤◌, ◌<◌}
 use native.Mathlib.Omega.{arith}
 use mathlib.Core.Path.{◌≡◌, refl, sym, ap, ◌∙◌}
 use mathlib.Core.Logic.{◌≢◌}
-use mathlib.Core.Bool.{Bool, true, false, ◌&&◌, cond, and-true, and-false}
+use mathlib.Core.Bool.{Bool, true, false, ◌&&◌, cond, and-true, and-false, true≢false, false≢true}
 use mathlib.Core.List.{List, [], ◌∷◌}
 use lib.ListN.{length}
 use lib.Dec.{eqb, ltb}
 use borrow.Author.Tests.{ltb-true, eqb-true, ne_eqb, le-leb, lt-leb}
 use Rattle.meaning.specs.Octets.{octet, part, same, every, implies}
-use Rattle.meaning.specs.Checks.{first_failed, when_passed}
+use Rattle.meaning.specs.Checks.{passed, check, first_failed, when_passed}
 use Rattle.meaning.specs.Table.{rows, row_at, place, by_controller, entry_count, memory_length, admin_base_time, admin_control_list_length, admin_control_list, admin_cycle_time, commit}
 use Rattle.meaning.specs.Block.{permits, keeps, joined_block, form_and_fit, sums}
 use Rattle.meaning.specs.Memory.{present, body, pending, in_flight, store, set_marks, four_present, sound}
@@ -20,6 +20,9 @@ use Rattle.meaning.proofs.Lists.{part-octet, length_part}
 use Rattle.meaning.proofs.Values.{permits_opened}
 use Rattle.meaning.proofs.Profiles.{memory-length, absent_fails}
 use Rattle.meaning.proofs.Sound.{opened, entry_of, four_at_lem}
+use Rattle.std.specs.Prelude.{Option, Some, None, Result, Ok, Err, is_some, is_ok, ok_or}
+use Rattle.wire.specs.declared.Cause.{Cause}
+use Rattle.command.specs.Answers.{listed_place}
 use Rattle.schedule.proofs.Blocks.{permitted_base, permitted-count, permitted-list, permitted-ratio}
 
 pub long_of : (m : List ℕ) → sound m ≡ true → length m ≡ memory_length
@@ -87,9 +90,39 @@ block_found m hb hc hl hr = rw (hb, hc, hl, hr)
 
 -- ---- names that the profile lists
 
+unwrap_or : ℕ → Option ℕ → ℕ
+unwrap_or d None = d
+unwrap_or d (Some k) = k
+
+error_of : Cause → Result ℕ Cause → Cause
+error_of d (Ok k) = d
+error_of d (Err c) = c
+
 pub lists-place : (p k : ℕ) → lists p k ≡ true → k < entry_count
 unfolding lists
 lists-place p k e = ltb-true _ _ (and_left _ _ e)
+
+pub place_listed : (p n k : ℕ) → Some k ≡ listed_place p n → (lists p k ≡ true) × (k ≡ place n)
+unfolding listed_place unwrap_or
+place_listed p n k e = go (lists p (place n)) refl e
+  where
+    go : (b : Bool) → lists p (place n) ≡ b → Some k ≡ cond b (Some (place n)) None → (lists p k ≡ true) × (k ≡ place n)
+    go true h f = let q : k ≡ place n = ap (unwrap_or 0) f in (rw q h, q)
+    go false h f = absurd (true≢false (ap is_some f))
+
+pub place_unlisted : (p n : ℕ) → None ≡ listed_place p n → lists p (place n) ≡ false
+unfolding listed_place
+place_unlisted p n e = go (lists p (place n)) e
+  where
+    go : (b : Bool) → None ≡ cond b (Some (place n)) None → b ≡ false
+    go true f = absurd (false≢true (ap is_some f))
+    go false f = refl
+
+-- the cause that comes where the profile does not list it
+pub not_listed : (p n : ℕ) (o : Option ℕ) (c r : Cause) → o ≡ listed_place p n → Err r ≡ ok_or o c → (lists p (place n) ≡ false) × (r ≡ c)
+unfolding error_of
+not_listed p n None c r e f = (place_unlisted p n e, ap (error_of c) f)
+not_listed p n (Some k) c r e f = absurd (false≢true (ap is_ok f))
 
 -- ---- a read
 
@@ -193,6 +226,16 @@ module _ (p : ℕ) (m : List ℕ) (n k : ℕ) (v : List ℕ) (e : k ≡ place n)
     pub set-done : t ≡ true → Set p m n v 0 after
     unfolding set_memory set_checks first_failed when_passed listed
     set-done f = rw (q, ← e, h, o, l, sym y ∙ f) (refl, refl)
+
+-- its cause is one of three, or none: what holds of each holds of it
+pub set_cause : (P : ℕ → Type 0) → P 0 → P 0x01 → P 0x02 → P 0x6F → (a b c d : Bool)
+    → P (first_failed (check 0x01 a (check 0x6F b (check 0x6F c (check 0x02 d passed)))))
+unfolding first_failed
+set_cause P none unlisted invalid refused true true true true = none
+set_cause P none unlisted invalid refused true true true false = invalid
+set_cause P none unlisted invalid refused true true false d = refused
+set_cause P none unlisted invalid refused true false c d = refused
+set_cause P none unlisted invalid refused false b c d = unlisted
 
 -- ---- a set by its profile
 

@@ -1,20 +1,24 @@
 -- An answer as the code has it tells the answer of `meaning`: with the operation, the list and the memory afterwards it is the same again.
-use Prim.Native.Nat.{ℕ, zero, suc}
-use mathlib.Core.Path.{◌≡◌, refl}
+use Prim.Native.Nat.{ℕ}
+use mathlib.Core.Path.{◌≡◌, refl, ap}
 use mathlib.Core.Bool.{Bool, true, false}
 use mathlib.Core.List.{List}
 use Rattle.meaning.specs.Octets.{part}
-use Rattle.meaning.specs.Checks.{first_failed, when_passed}
+use Rattle.meaning.specs.Checks.{when_passed}
 use Rattle.meaning.specs.Table.{place}
 use Rattle.meaning.specs.Memory.{present}
 use Rattle.meaning.specs.Profile.{lists}
-use Rattle.meaning.specs.Step.{update, update_error, read_answer, set_checks, set_answer, step, answer}
+use Rattle.meaning.specs.Step as step
+use Rattle.meaning.specs.Step.{read_error, update, update_error, read_answer, set_checks, set_answer, step, answer}
+use Rattle.operation.specs.declared.NamedValue.{NamedValue}
 use Rattle.operation.specs.declared.Op.{Op}
 use Rattle.operation.specs.declared.Op.TheVariants.{Capabilities, Read, Set, Subscribe, Unsubscribe, SelectiveRead, SelectiveSubscribe, SelectiveUnsubscribe, DeleteEntry}
 use Rattle.operation.specs.Handing.{op_of, name_of, from_of, size_of}
 use Rattle.command.specs.declared.Answer.{Answer}
 use Rattle.command.specs.Answers.{answer_of, InTable, told}
-use Rattle.command.proofs.Sets.{lists-place, read_unlisted, read-absent, read-value}
+use Rattle.wire.specs.Causes.{octet_of, cause_of}
+use Rattle.wire.proofs.Causes.{absent_back}
+use Rattle.command.proofs.Sets.{lists-place, read_unlisted, read-absent, read-value, set_cause}
 
 module _ (p : ℕ) (m s : List ℕ) where
   -- the answer, and that the place of a value is one of the table
@@ -22,39 +26,39 @@ module _ (p : ℕ) (m s : List ℕ) where
   Tells o a = (answer_of p (step p m (op_of s o)) s o a ≡ answer p m (op_of s o)) × InTable a
 
   read_tells : (n : ℕ) → Tells (Read n) (told (read_answer p m n))
-  unfolding answer_of told op_of name_of step answer
+  unfolding answer_of told op_of name_of step answer octet_of cause_of
   read_tells n = go (lists p (place n)) refl
     where
       there : lists p (place n) ≡ true → (b : Bool) → present m (place n) ≡ b → Tells (Read n) (told (read_answer p m n))
       there h true e = rw (read-value p m n h e) (refl, lists-place p (place n) h)
-      there h false e = rw (read-absent p m n h e) (refl, tt)
+      there h false e = rw (read-absent p m n h e) (ap (read_error n) (absent_back p), tt)
 
       go : (b : Bool) → lists p (place n) ≡ b → Tells (Read n) (told (read_answer p m n))
       go true h = there h (present m (place n)) refl
       go false h = rw (read_unlisted p m n h) (refl, tt)
 
-  set_tells : (n from size : ℕ) → Tells (Set n from size) (told (set_answer p m n (part s from size)))
-  unfolding answer_of told op_of name_of from_of size_of answer set_answer when_passed
-  set_tells n from size = go (first_failed (set_checks p m n v))
-    where
-      v : List ℕ
-      v = part s from size
+  -- what is made of a set's number
+  abbrev made : NamedValue → ℕ → step.Answer
+  made v c = when_passed c (update v.name (part s v.from v.size)) (update_error v.name)
 
-      go : (c : ℕ) → (answer_of p (step p m (op_of s (Set n from size))) s (Set n from size) (told (when_passed c (update n v) (update_error n))) ≡ when_passed c (update n v) (update_error n)) × InTable (told (when_passed c (update n v) (update_error n)))
-      go zero = (refl, tt)
-      go (suc c) = (refl, tt)
+  abbrev Told : NamedValue → ℕ → Type 0
+  Told v c = (answer_of p (step p m (op_of s (Set v))) s (Set v) (told (made v c)) ≡ made v c) × InTable (told (made v c))
+
+  set_tells : (v : NamedValue) → Tells (Set v) (told (set_answer p m v.name (part s v.from v.size)))
+  unfolding answer_of told op_of name_of from_of size_of answer set_answer set_checks when_passed octet_of cause_of
+  set_tells v = set_cause (Told v) (refl, tt) (refl, tt) (refl, tt) (refl, tt) _ _ _ _
 
   tells : (o : Op) → Tells o (told (answer p m (op_of s o)))
-  unfolding answer_of told op_of name_of answer
+  unfolding answer_of told op_of name_of answer octet_of cause_of
   tells Capabilities = (refl, tt)
   tells (Read n) = read_tells n
-  tells (Set n from size) = set_tells n from size
+  tells (Set v) = set_tells v
   tells (Subscribe n) = (refl, tt)
   tells (Unsubscribe n) = (refl, tt)
-  tells (SelectiveRead n from size) = (refl, tt)
-  tells (SelectiveSubscribe n from size) = (refl, tt)
-  tells (SelectiveUnsubscribe n from size) = (refl, tt)
-  tells (DeleteEntry n from size) = (refl, tt)
+  tells (SelectiveRead v) = (refl, tt)
+  tells (SelectiveSubscribe v) = (refl, tt)
+  tells (SelectiveUnsubscribe v) = (refl, tt)
+  tells (DeleteEntry v) = (refl, tt)
 
   -- for the answer and the memory that an operation leaves
   pub told_back : (o : Op) (m' : List ℕ) (a : Answer) → m' ≡ step p m (op_of s o) → a ≡ told (answer p m (op_of s o)) → (answer_of p m' s o a ≡ answer p m (op_of s o)) × InTable a

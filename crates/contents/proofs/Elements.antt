@@ -7,6 +7,7 @@ use mathlib.Core.Bool.{Bool, true, false, ◌&&◌, not, cond}
 use mathlib.Core.List.{List, [], ◌∷◌}
 use mathlib.Core.Option.{Option, none, some}
 use lib.ListN.{length, drop, drop_of_length-le}
+use Rattle.std.specs.Prelude.{Option as Returned, Some, None}
 use lib.Seq.{drop-cons}
 use lib.Dec.{eqb, leb, ltb}
 use borrow.Author.Tests.{leb-true, lt-ltb}
@@ -16,8 +17,6 @@ use Rattle.meaning.proofs.Tests.{and_left, and_right, not-true}
 use Rattle.meaning.proofs.Walked.{walk_from, walk_step, not_above}
 use Rattle.contents.specs.declared.Span.{Span}
 use Rattle.contents.specs.declared.Contents.{Contents}
-use Rattle.contents.specs.declared.Sized.TheVariants as Sized
-use Rattle.contents.specs.declared.Walked.{Walked}
 use Rattle.contents.specs.Spans.{span, standing, elements_is, kept, of_walk, walked}
 use Rattle.contents.proofs.Between.{between, between_end}
 use Rattle.contents.proofs.Lengths.{Found, stands}
@@ -73,11 +72,11 @@ module _ (s : List ℕ) (k : Contents) (at : ℕ) where
         (λ c. walk_from (standing (length s)) (keeping (elements_is k) (octet s at) (standing (length s) c.0 c.1)) c.1)
     walk_turn = rw (e, drop-cons s at 0, walk_step, between_end, add-one)
 
-    pub walk_cut : Found s (at + 1) (length s) w Sized.CutShort → read_from s k at ≡ none
+    pub walk_cut : Found s (at + 1) (length s) w None → read_from s k at ≡ none
     unfolding then_read
     walk_cut f = walk_turn ∙ rw f
 
-    pub walk_on : (p : Span) (more : Contents) → Found s (at + 1) (length s) w (Sized.Octets p) → more ≡ kept k (octet s at) p
+    pub walk_on : (p : Span) (more : Contents) → Found s (at + 1) (length s) w (Some p) → more ≡ kept k (octet s at) p
         → read_from s more p.to ≡ read_from s k at
     unfolding then_read kept
     walk_on p more f m = rw (m, walk_turn, f.0, stands s p (length s) f.2 f.3 (omega arith), between_end s p.to)
@@ -85,11 +84,11 @@ module _ (s : List ℕ) (k : Contents) (at : ℕ) where
 -- ---- what a walk comes to, told by what there is to read at its end
 
 module _ (s : List ℕ) (k : Contents) (at : ℕ) (e : read_from s k at ≡ elements_of (standing (length s)) (span 0 0) (drop 1 s)) where
-  pub walked_cut : read_from s k at ≡ none → Walked.CutShort ≡ walked s
+  pub walked_cut : read_from s k at ≡ none → None ≡ walked s
   unfolding walked of_walk
   walked_cut n = rw (← e, n)
 
-  pub walked_all : length s ≤ at → Walked.Elements k ≡ walked s
+  pub walked_all : length s ≤ at → Some k ≡ walked s
   unfolding walked of_walk
   walked_all h = rw (← e, walk_end s k at h)
 
@@ -142,16 +141,16 @@ module _ {C : Type 0} (P : C → Type 0) where
 abbrev pub Inside : ℕ → Span → Type 0
 Inside n p = (p.from ≤ p.to) × (p.to ≤ n)
 
-abbrev pub AllInside : ℕ → Walked → Type 0
-AllInside n Walked.CutShort = Unit {0}
-AllInside n (Walked.Elements k) = Inside n k.names × Inside n k.status × Inside n k.result
+abbrev pub AllInside : ℕ → Returned Contents → Type 0
+AllInside n None = Unit {0}
+AllInside n (Some k) = Inside n k.names × Inside n k.status × Inside n k.result
 
 walk_inside : (n : ℕ) (o : Option (Elements Span)) → EachRead (Inside n) o → AllInside n (of_walk o)
 unfolding of_walk
 walk_inside n none h = tt
 walk_inside n (some k) h = h
 
-pub walked-inside : (s : List ℕ) (r : Walked) → r ≡ walked s → AllInside (length s) r
+pub walked-inside : (s : List ℕ) (r : Returned Contents) → r ≡ walked s → AllInside (length s) r
 unfolding walked elements_of standing
 walked-inside s r e =
     rw e

@@ -6,6 +6,7 @@ use mathlib.Core.Path.{◌≡◌, refl, sym, ap, ap₂, ◌∙◌}
 use mathlib.Core.List.{List, [], ◌∷◌}
 use mathlib.Core.Option.{none, some}
 use lib.ListN.{length, take}
+use Rattle.std.specs.Prelude.{Option as Returned, Some, None}
 use Rattle.meaning.specs.Octets.{octet, at16, part}
 use Rattle.meaning.specs.Block.{as_number_from, as_number}
 use Rattle.meaning.specs.Capture.{sized}
@@ -13,8 +14,6 @@ use Rattle.meaning.proofs.Lists.{length_part, octet-part}
 use Rattle.meaning.proofs.Values.{number_one}
 use Rattle.meaning.proofs.Fronts.{sized_there, sized_cut}
 use Rattle.contents.specs.declared.Span.{Span}
-use Rattle.contents.specs.declared.Sized.{Sized}
-use Rattle.contents.specs.declared.Sized.TheVariants.{Octets, CutShort}
 use Rattle.contents.specs.Spans.{span, octets_of, standing, spanned}
 use Rattle.contents.proofs.Between.{between, part-at16, between-length, between-take, between-drop, between-part}
 
@@ -74,27 +73,27 @@ module _ (s : List ℕ) (at to w : ℕ) (h : at ≤ to) (l : to ≤ length s) wh
 -- ---- each way in which `sized_at` returns
 
 module _ (s : List ℕ) (at to w : ℕ) (h : at ≤ to) (l : to ≤ length s) where
-  pub no_length : to - at < w → CutShort ≡ spanned to (sized w (between s at to))
+  pub no_length : to - at < w → None ≡ spanned to (sized w (between s at to))
   unfolding spanned
   no_length b = rw (length_cut s at to w h l b)
 
-  pub no_value : (n : ℕ) → at + w ≤ to → n ≡ as_number (part s at w) → to - (at + w) < n → CutShort ≡ spanned to (sized w (between s at to))
+  pub no_value : (n : ℕ) → at + w ≤ to → n ≡ as_number (part s at w) → to - (at + w) < n → None ≡ spanned to (sized w (between s at to))
   unfolding spanned
   no_value n b e c = rw (value_cut s at to w h l n b e c)
 
-  pub all_there : (n : ℕ) → at + w ≤ to → n ≡ as_number (part s at w) → n ≤ to - (at + w) → Octets (span (at + w) (at + w + n)) ≡ spanned to (sized w (between s at to))
+  pub all_there : (n : ℕ) → at + w ≤ to → n ≡ as_number (part s at w) → n ≤ to - (at + w) → Some (span (at + w) (at + w + n)) ≡ spanned to (sized w (between s at to))
   unfolding spanned
   all_there n b e c = rw (value_there s at to w h l n b e c, stands s (span (at + w) (at + w + n)) to (omega arith) (omega arith) l)
 
 -- ---- what is known of what `sized_at` found
 
 -- octets behind a length of w octets are found from a place up to another: all that stands there, or that they are cut short
-abbrev pub Found : List ℕ → ℕ → ℕ → ℕ → Sized → Type 0
-Found s at to w CutShort = sized w (between s at to) ≡ none
-Found s at to w (Octets p) = (sized w (between s at to) ≡ some (octets_of s p, between s p.to to)) × (p.from ≡ at + w) × (p.from ≤ p.to) × (p.to ≤ to)
+abbrev pub Found : List ℕ → ℕ → ℕ → ℕ → Returned Span → Type 0
+Found s at to w None = sized w (between s at to) ≡ none
+Found s at to w (Some p) = (sized w (between s at to) ≡ some (octets_of s p, between s p.to to)) × (p.from ≡ at + w) × (p.from ≤ p.to) × (p.to ≤ to)
 
 module _ (s : List ℕ) (at to w : ℕ) (h : at ≤ to) (l : to ≤ length s) where
-  pub found : (r : Sized) → r ≡ spanned to (sized w (between s at to)) → Found s at to w r
+  pub found : (r : Returned Span) → r ≡ spanned to (sized w (between s at to)) → Found s at to w r
   found r e = rw e (go (dec_le (at + w) to))
     where
       n : ℕ

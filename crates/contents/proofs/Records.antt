@@ -11,9 +11,7 @@ use Rattle.meaning.specs.Octets.{at16}
 use Rattle.meaning.specs.Reply.{Held}
 use Rattle.meaning.specs.Capture.{then_read, is_there, sized, front_held, several, until_end_in, until_end}
 use Rattle.contents.specs.declared.Span.{Span}
-use Rattle.contents.specs.declared.Sized.{Sized}
-use Rattle.contents.specs.declared.Passed.{Passed}
-use Rattle.contents.specs.declared.Passed.TheVariants.{At, CutShort}
+use Rattle.std.specs.Prelude.{Option as Returned, Some, None}
 use Rattle.contents.specs.Spans.{octets_of, spanned, place_after, is_whole}
 use Rattle.contents.proofs.Between.{between, between_none, between-length, between-drop, between_front, part-at16}
 use Rattle.contents.proofs.Lengths.{Found, found, sized_nothing}
@@ -27,11 +25,11 @@ module _ (s : List ℕ) (at to w : ℕ) (l : to ≤ length s) where
   held-short h b g = rw (drop_of_length-le (between s at to) {i = 2} (omega (arith, between-length s at to l h)), sized_nothing w g)
 
   module _ (b : at + 2 ≤ to) where
-    pub held_cut : Found s (at + 2) to w Sized.CutShort → front_held w (between s at to) ≡ none
+    pub held_cut : Found s (at + 2) to w None → front_held w (between s at to) ≡ none
     unfolding front_held then_read
     held_cut f = rw (between-drop s at to l 2 b, f)
 
-    pub held_found : (p : Span) → Found s (at + 2) to w (Sized.Octets p)
+    pub held_found : (p : Span) → Found s (at + 2) to w (Some p)
         → front_held w (between s at to) ≡ some (record { name = at16 s at; value = octets_of s p }, between s p.to to)
     unfolding front_held then_read
     held_found p f = rw (between-drop s at to l 2 b, f.0, part-at16 s at (to - at) (omega arith))
@@ -65,28 +63,28 @@ module _ {A : Type 0} (one : List ℕ → Option (A × List ℕ)) where
       only (some a) e = sym (several_on to 1 t a.1 a.0 (omega arith) e) ∙ unfold several place_after in refl
 
 -- where n values end that stand from a place up to another
-abbrev pub end_of : List ℕ → ℕ → ℕ → ℕ → ℕ → Passed
+abbrev pub end_of : List ℕ → ℕ → ℕ → ℕ → ℕ → Returned ℕ
 end_of s at to w n = place_after to (several (front_held w) n (between s at to))
 
 module _ (s : List ℕ) (at to w n : ℕ) (l : to ≤ length s) where
-  pub pass_end : at ≤ to → n ≤ 0 → At at ≡ end_of s at to w n
+  pub pass_end : at ≤ to → n ≤ 0 → Some at ≡ end_of s at to w n
   unfolding several place_after
   pass_end h z =
       let e : n ≡ 0 = omega arith in
-      rw (e, between-length s at to l h) (ap At (omega arith))
+      rw (e, between-length s at to l h) (ap Some (omega arith))
 
   module _ (g : 1 ≤ n) where
-    none_there : front_held w (between s at to) ≡ none → CutShort ≡ end_of s at to w n
+    none_there : front_held w (between s at to) ≡ none → None ≡ end_of s at to w n
     unfolding place_after
     none_there e = rw (several_cut (front_held w) n (between s at to) g e)
 
-    pub pass-short : at ≤ to → to - at < 2 → 1 ≤ w → CutShort ≡ end_of s at to w n
+    pub pass-short : at ≤ to → to - at < 2 → 1 ≤ w → None ≡ end_of s at to w n
     pass-short h b f = none_there (held-short s at to w l h b f)
 
-    pub pass_cut : at + 2 ≤ to → Found s (at + 2) to w Sized.CutShort → CutShort ≡ end_of s at to w n
+    pub pass_cut : at + 2 ≤ to → Found s (at + 2) to w None → None ≡ end_of s at to w n
     pass_cut b f = none_there (held_cut s at to w l b f)
 
-    pub pass_on : (p : Span) → at + 2 ≤ to → Found s (at + 2) to w (Sized.Octets p) → end_of s p.to to w (n - 1) ≡ end_of s at to w n
+    pub pass_on : (p : Span) → at + 2 ≤ to → Found s (at + 2) to w (Some p) → end_of s p.to to w (n - 1) ≡ end_of s at to w n
     pass_on p b f = several_on (front_held w) to n (between s at to) (between s p.to to) _ g (held_found s at to w l b p f)
 
 -- ---- what is left behind them stands in the message too
@@ -110,9 +108,9 @@ module _ (s : List ℕ) (to w : ℕ) (l : to ≤ length s) (g : 1 ≤ w) where
   held-behind : (at : ℕ) → at ≤ to → Behind s (at + 2) to (front_held w (between s at to))
   held-behind at h = go (dec_le (at + 2) to)
     where
-      known : at + 2 ≤ to → (r : Sized) → Found s (at + 2) to w r → Behind s (at + 2) to (front_held w (between s at to))
-      known b Sized.CutShort f = rw (held_cut s at to w l b f) tt
-      known b (Sized.Octets p) f = rw (held_found s at to w l b p f) (p.to, omega (arith, f.1, f.2), f.3, refl)
+      known : at + 2 ≤ to → (r : Returned Span) → Found s (at + 2) to w r → Behind s (at + 2) to (front_held w (between s at to))
+      known b None f = rw (held_cut s at to w l b f) tt
+      known b (Some p) f = rw (held_found s at to w l b p f) (p.to, omega (arith, f.1, f.2), f.3, refl)
 
       go : Dec (at + 2 ≤ to) → Behind s (at + 2) to (front_held w (between s at to))
       go (yes b) = known b (spanned to (sized w (between s (at + 2) to))) (found s (at + 2) to w b l _ refl)
@@ -131,12 +129,12 @@ module _ (s : List ℕ) (to w : ℕ) (l : to ≤ length s) (g : 1 ≤ w) where
           rw b.3 (behind_more s at to a.0 o (behind-after s at b.0 to o (omega (arith, b.1)) (more b.0 b.2)))
 
 -- what was read where a place is told, and where none is
-pub told_none : {A : Type 0} (to : ℕ) (o : Option (A × List ℕ)) → CutShort ≡ place_after to o → o ≡ none
+pub told_none : {A : Type 0} (to : ℕ) (o : Option (A × List ℕ)) → None ≡ place_after to o → o ≡ none
 unfolding place_after
 told_none to none e = refl
 told_none to (some a) e = let z : ◌≡◌ {A = ℕ} 0 1 = cc in absurd (omega arith)
 
-pub told_some : {A : Type 0} (s : List ℕ) (from to : ℕ) → to ≤ length s → (o : Option (A × List ℕ)) (end : ℕ) → At end ≡ place_after to o → Behind s from to o
+pub told_some : {A : Type 0} (s : List ℕ) (from to : ℕ) → to ≤ length s → (o : Option (A × List ℕ)) (end : ℕ) → Some end ≡ place_after to o → Behind s from to o
     → (a : A) × (o ≡ some (a, between s end to)) × (from ≤ end) × (end ≤ to)
 unfolding place_after
 told_some s from to l none end e b = let z : ◌≡◌ {A = ℕ} 0 1 = cc in absurd (omega arith)
@@ -164,11 +162,11 @@ module _ (s : List ℕ) (at to : ℕ) where
     unfolding is_whole
     front_first o e = rw (between_front s at to l h, until_step (front_held 2) (held_leaves 2), ← between_front s at to l h, e)
 
-    pub whole_cut : CutShort ≡ end_of s at to 2 1 → is_whole (between s at to) ≡ false
+    pub whole_cut : None ≡ end_of s at to 2 1 → is_whole (between s at to) ≡ false
     unfolding then_read
     whole_cut e = front_first none (told_none to _ (e ∙ several_only (front_held 2) to (between s at to)))
 
-    pub whole_on : (end : ℕ) → At end ≡ end_of s at to 2 1 → (is_whole (between s end to) ≡ is_whole (between s at to)) × (at < end) × (end ≤ to)
+    pub whole_on : (end : ℕ) → Some end ≡ end_of s at to 2 1 → (is_whole (between s end to) ≡ is_whole (between s at to)) × (at < end) × (end ≤ to)
     unfolding then_read is_whole
     whole_on end e =
         let t = told_some s (at + 2) to l _ end (e ∙ several_only (front_held 2) to (between s at to)) (held-behind s to 2 l (omega arith) at (omega arith)) in

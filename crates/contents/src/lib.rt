@@ -8,7 +8,8 @@ ghost use Rattle.meaning.specs.Block.{as_number};
 ghost use Rattle.meaning.specs.Capture.{sized, front_held, several, length_octets};
 ghost use Rattle.contents.specs.Spans.{spanned, kept, walked, place_after, is_whole, counted_in};
 
-// The octets of a message from one place up to another.
+// The octets of a message from one place up to another. Nothing is asked of the two: `capture::next` takes every cursor, so
+// whoever needs an order of them asks for it.
 #[derive(Clone, Copy)]
 pub struct Span {
     pub from: usize,
@@ -16,13 +17,6 @@ pub struct Span {
 }
 
 // ---- octets behind a length
-
-// Octets that are all there, and where they stand; or not.
-#[derive(Clone, Copy)]
-pub enum Sized {
-    Octets(Span),
-    CutShort,
-}
 
 // The number that none, one or two octets at a place spell.
 fn length_at(s: &[u8], at: usize, w: usize) -> usize
@@ -33,25 +27,25 @@ fn length_at(s: &[u8], at: usize, w: usize) -> usize
         return octets::get16(s, at);
     }
     if w == 1 {
-        return octets::wide(s[at]);
+        return usize::from(s[at]);
     }
     0
 }
 
 // A length of w octets at a place, and as many octets behind it as it says, up to another place.
-pub fn sized_at(s: &[u8], at: usize, to: usize, w: usize) -> Sized
+pub fn sized_at(s: &[u8], at: usize, to: usize, w: usize) -> Option<Span>
     requires { (at ≤ to) × (to ≤ length s.now) × (w ≤ 2) }
     ensures { result ≡ spanned to (sized w (part s.now at (to - at))) }
 {
     if to - at < w {
-        return Sized::CutShort;
+        return None;
     }
     let from = at + w;
     let n = length_at(s, at, w);
     if to - from < n {
-        return Sized::CutShort;
+        return None;
     }
-    Sized::Octets(Span { from, to: from + n })
+    Some(Span { from, to: from + n })
 }
 
 // ---- elements
@@ -85,29 +79,30 @@ fn keep(k: Contents, id: u8, p: Span) -> Contents
     if id <= k.highest {
         return k;
     }
-    let mut more = k;
-    if id == wire::ELEMENT_CAPABILITY {
-        more.names = p;
-    } else if id == wire::ELEMENT_STATUS {
-        more.status = p;
-    } else if id == wire::ELEMENT_UPDATE_RESULT {
-        more.result = p;
-    } else {
-        return k;
+    let highest = id;
+    match id {
+        wire::ELEMENT_CAPABILITY => Contents {
+            highest,
+            names: p,
+            ..k
+        },
+        wire::ELEMENT_STATUS => Contents {
+            highest,
+            status: p,
+            ..k
+        },
+        wire::ELEMENT_UPDATE_RESULT => Contents {
+            highest,
+            result: p,
+            ..k
+        },
+        _ => k,
     }
-    more.highest = id;
-    more
 }
 
-// The elements of a reply that are read, or that one is cut short.
-#[derive(Clone, Copy)]
-pub enum Walked {
-    Elements(Contents),
-    CutShort,
-}
-
-// All elements of a reply, which stand behind its type, walked by their sizes.
-pub fn walk(s: &[u8]) -> Walked
+// All elements of a reply, which stand behind its type, walked by their sizes; nothing where one is cut short. Each takes another
+// number of octets, so that no range gives the places.
+pub fn walk(s: &[u8]) -> Option<Contents>
     requires { 1 ≤ length s.now }
     ensures { result ≡ walked s.now }
 {
@@ -121,52 +116,40 @@ pub fn walk(s: &[u8]) -> Walked
     let mut at = 1;
     while at < s.len() {
         let id = s[at];
-        let Sized::Octets(p) = sized_at(s, at + 1, s.len(), length_octets(id)) else {
-            return Walked::CutShort;
-        };
+        let p = sized_at(s, at + 1, s.len(), length_octets(id))?;
         k = keep(k, id, p);
         at = p.to;
     }
-    Walked::Elements(k)
+    Some(k)
 }
 
 // ---- records, walked
 
-// The place after some records that are all there; or they are not.
-#[derive(Clone, Copy)]
-enum Passed {
-    At(usize),
-    CutShort,
-}
-
 // n values with lengths of w octets, from a place on.
-fn pass(s: &[u8], at: usize, to: usize, w: usize, n: u8) -> Passed
+fn pass(s: &[u8], at: usize, to: usize, w: usize, n: u8) -> Option<usize>
     requires { (at ≤ to) × (to ≤ length s.now) × (1 ≤ w) × (w ≤ 2) }
     ensures { result ≡ place_after to (several (front_held w) n (part s.now at (to - at))) }
 {
     let mut next = at;
-    let mut left = n;
-    while left > 0 {
+    for _ in 0..n {
         if to - next < wire::NAME_LENGTH {
-            return Passed::CutShort;
+            return None;
         }
-        let Sized::Octets(p) = sized_at(s, next + wire::NAME_LENGTH, to, w) else {
-            return Passed::CutShort;
-        };
+        let p = sized_at(s, next + wire::NAME_LENGTH, to, w)?;
         next = p.to;
-        left -= 1;
     }
-    Passed::At(next)
+    Some(next)
 }
 
 // Whether the octets from a place up to another are whole values with lengths of two octets.
+// Each value takes another number of octets, so that no range gives the places.
 pub fn whole(s: &[u8], at: usize, to: usize) -> bool
     requires { (at ≤ to) × (to ≤ length s.now) }
     ensures { result ≡ is_whole (part s.now at (to - at)) }
 {
     let mut next = at;
     while next < to {
-        let Passed::At(end) = pass(s, next, to, 2, 1) else {
+        let Some(end) = pass(s, next, to, 2, 1) else {
             return false;
         };
         next = end;
@@ -174,41 +157,40 @@ pub fn whole(s: &[u8], at: usize, to: usize) -> bool
     true
 }
 
-// Values and errors, each behind its count, and where each of them stand; or they are not all there.
+// Where values and errors stand, each behind their count.
 #[derive(Clone, Copy)]
-pub enum Counted {
-    Spans(Span, Span),
-    CutShort,
+pub struct Counted {
+    pub values: Span,
+    pub errors: Span,
 }
 
-// A count, values with lengths of w octets, a count, errors: the octets p begin with these.
-pub fn counted_in(s: &[u8], p: Span, w: usize) -> Counted
+// A count, values with lengths of w octets, a count, errors: the octets p begin with these, or they are not all there.
+pub fn counted_in(s: &[u8], p: Span, w: usize) -> Option<Counted>
     requires { (p.from ≤ p.to) × (p.to ≤ length s.now) × (1 ≤ w) × (w ≤ 2) }
     ensures { result ≡ counted_in w s.now p }
 {
     let from = p.from;
     let to = p.to;
     if to <= from {
-        return Counted::CutShort;
+        return None;
     }
-    let Passed::At(second) = pass(s, from + 1, to, w, s[from]) else {
-        return Counted::CutShort;
-    };
+    let second = pass(s, from + 1, to, w, s[from])?;
     if to <= second {
-        return Counted::CutShort;
+        return None;
     }
-    let n = wire::ERROR_LENGTH * octets::wide(s[second]);
+    let n = wire::ERROR_LENGTH * usize::from(s[second]);
     let errors = second + 1;
     if to - errors < n {
-        return Counted::CutShort;
+        return None;
     }
-    let values = Span {
-        from: from + 1,
-        to: second,
-    };
-    let behind = Span {
-        from: errors,
-        to: errors + n,
-    };
-    Counted::Spans(values, behind)
+    Some(Counted {
+        values: Span {
+            from: from + 1,
+            to: second,
+        },
+        errors: Span {
+            from: errors,
+            to: errors + n,
+        },
+    })
 }

@@ -1,47 +1,42 @@
--- A delay's octets as the code writes them, one division for each, and as it reads them, from the last to the first.
-use Prim.Native.Nat.{ℕ, zero, suc, ◌+◌, ◌-◌, ◌*◌, ◌/◌, ◌%◌, ◌^◌, ◌≤◌, ◌<◌}
+-- A delay's octets as the library writes them and as it reads them.
+use Prim.Native.Nat.{ℕ, ◌+◌, ◌*◌, ◌≤◌, ◌<◌}
 use native.Mathlib.Nat.{div-div-eq-div-mul}
+use native.Mathlib.Numerals.{add-one}
 use native.Mathlib.Omega.{arith}
 use mathlib.Core.Path.{◌≡◌}
-use mathlib.Core.List.{List, [], ◌∷◌}
+use mathlib.Core.List.{List}
 use lib.ListN.{length, get_or, drop, drop_of_length-le}
 use lib.Seq.{drop-cons}
+use Rattle.std.specs.Int.{w64, to_le_bytes, from_le_bytes}
 use Rattle.meaning.specs.Delay.{low_first, low_number}
-use Rattle.meaning.proofs.Lists.{octets_each}
-use Rattle.meaning.proofs.Delays.{number_fits}
 
-pub eight_written : (u : ℕ) {a b c d e f g h : ℕ}
-    → a ≡ u % 256
-    → b ≡ u / 0x100 % 256
-    → c ≡ u / 0x10000 % 256
-    → d ≡ u / 0x1000000 % 256
-    → e ≡ u / 0x100000000 % 256
-    → f ≡ u / 0x10000000000 % 256
-    → g ≡ u / 0x1000000000000 % 256
-    → h ≡ u / 0x100000000000000 % 256
-    → a ∷ b ∷ c ∷ d ∷ e ∷ f ∷ g ∷ h ∷ [] ≡ low_first 8 u
+pub low_written : (u : ℕ) → to_le_bytes w64 u ≡ low_first 8 u
 unfolding low_first
-eight_written u p q r s t v w x = rw (p, q, r, s, t, v, w, x) (simp div-div-eq-div-mul)
+low_written u = simp div-div-eq-div-mul
 
-pub nothing_read : (s : List ℕ) (i : ℕ) → length s ≤ i → 0 ≡ low_number (drop i s)
+-- an octet and the number that the octets behind it spell
+low_turn : (s : List ℕ) (i : ℕ) → i < length s → low_number (drop i s) ≡ get_or s i 0 + 256 * low_number (drop (i + 1) s)
 unfolding low_number
-nothing_read s i h = rw drop_of_length-le
+low_turn s i h = rw (add-one, drop-cons s i 0 h)
 
--- an octet and the number that is read behind it
-pub one_more-read : (s : List ℕ) (i : ℕ) → 1 ≤ i → i ≤ length s → low_number (drop (i - 1) s) ≡ low_number (drop i s) * 256 + get_or s (i - 1) 0
+low_end : (s : List ℕ) → length s ≡ 8 → low_number (drop 8 s) ≡ 0
 unfolding low_number
-one_more-read s zero h l = absurd (omega arith)
-one_more-read s (suc i) h l =
-    let e : suc i - 1 ≡ i = omega arith in
-    rw (e, drop-cons s i 0) (omega arith)
+low_end s l =
+    let h : length s ≤ 8 = omega arith in
+    rw (drop_of_length-le s h)
 
--- the octets behind a place spell at most what all spell
-tail_at_most : (s : List ℕ) (i : ℕ) → low_number (drop i s) ≤ low_number s
-unfolding low_number
-tail_at_most s zero = omega arith
-tail_at_most [] (suc i) = omega arith
-tail_at_most (x ∷ s) (suc i) = omega (arith, tail_at_most s i)
-
--- so no number on the way is too large for 64 bits
-pub read_fits : (s : List ℕ) → length s ≡ 8 → ((i : ℕ) → get_or s i 0 < 256) → (i : ℕ) → low_number (drop i s) < 2 ^ 64
-read_fits s l g i = omega (arith, tail_at_most s i, number_fits s l (octets_each s g))
+pub low_read : (s : List ℕ) → length s ≡ 8 → from_le_bytes w64 s ≡ low_number s
+low_read s l =
+    let turn = λ (i : ℕ) (h : i < 8). low_turn s i (omega arith) in
+    omega (
+      arith,
+      turn 0 (omega arith),
+      turn 1 (omega arith),
+      turn 2 (omega arith),
+      turn 3 (omega arith),
+      turn 4 (omega arith),
+      turn 5 (omega arith),
+      turn 6 (omega arith),
+      turn 7 (omega arith),
+      low_end s l,
+    )

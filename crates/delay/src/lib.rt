@@ -2,7 +2,7 @@
 // Each function says by a definition what it returns, for every argument.
 #![tactic(auto)]
 
-ghost use Rattle.std.specs.Prelude.{◌<◌, ◌%◌, ◌^◌, ◌≡◌};
+ghost use Rattle.std.specs.Prelude.{◌<◌, ◌^◌, ◌≡◌};
 ghost use Rattle.meaning.specs.Delay.{units, low_first, delay, nanoseconds_in, units_over};
 ghost use Rattle.delay.specs.Stored.{stored_in};
 
@@ -30,15 +30,9 @@ pub struct Split {
     pub over: DelayUnits,
 }
 
-// What octets hold as a stored delay: eight spell one, any other count none.
-#[derive(Clone, Copy)]
-pub enum Stored {
-    Delay(DelayUnits),
-    NotEight,
-}
-
 impl Nanoseconds {
-    // Exact below 2^47 nanoseconds (RULES 7.3), the largest delay from there on (RULES 7.4).
+    // Exact below 2^47 nanoseconds (RULES 7.3), the largest delay from there on (RULES 7.4). So it is no `From`, which
+    // loses nothing.
     pub fn to_delay_units(self) -> DelayUnits
         ensures { (result.0 ≡ units self.0) × (result.0 < 2 ^ 63) }
     {
@@ -57,29 +51,12 @@ impl Nanoseconds {
     }
 }
 
-// The low octet of a number.
-fn low_octet(x: u64) -> u8
-    ensures { result ≡ x % 256 }
-{
-    (x % 256) as u8
-}
-
 impl DelayUnits {
     // What is stored for so many units, the LOW octet first.
     pub fn to_octets(self) -> [u8; 8]
         ensures { result ≡ low_first 8 self.0 }
     {
-        let u = self.0;
-        [
-            low_octet(u),
-            low_octet(u / 0x100),
-            low_octet(u / 0x1_0000),
-            low_octet(u / 0x100_0000),
-            low_octet(u / 0x1_0000_0000),
-            low_octet(u / 0x100_0000_0000),
-            low_octet(u / 0x1_0000_0000_0000),
-            low_octet(u / 0x100_0000_0000_0000),
-        ]
+        self.0.to_le_bytes()
     }
 
     // The whole nanoseconds in so many units, and the units over.
@@ -93,18 +70,10 @@ impl DelayUnits {
     }
 }
 
-// The delay that a port stored as these octets. The high octet is last, so they are read from the end.
-pub fn from_octets(s: &[u8]) -> Stored
+// The delay that a port stored as these octets: eight spell one, the LOW octet first, and any other count none.
+pub fn from_octets(s: &[u8]) -> Option<DelayUnits>
     ensures { result ≡ stored_in s.now }
 {
-    if s.len() != 8 {
-        return Stored::NotEight;
-    }
-    let mut u: u64 = 0;
-    let mut i: usize = 8;
-    while 0 < i {
-        i -= 1;
-        u = u * 256 + octets::wide(s[i]) as u64;
-    }
-    Stored::Delay(DelayUnits(u))
+    let octets = s.as_array::<8>()?;
+    Some(DelayUnits(u64::from_le_bytes(*octets)))
 }

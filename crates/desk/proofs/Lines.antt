@@ -1,18 +1,16 @@
 -- Lines answered one after another: what is printed up to the next line feed and behind it, and a turn of the loop over them.
 use Prim.Native.Nat.{ℕ, suc, ◌<◌}
-use native.Mathlib.Omega.{arith}
 use mathlib.Core.Path.{◌≡◌, refl, sym, ap, subst}
+use mathlib.Core.Logic.{◌⊎◌, inl, inr}
 use mathlib.Core.Bool.{Bool, true, false, ◌||◌, cond, false≢true}
 use mathlib.Core.List.{List, [], ◌∷◌, ◌++◌}
 use lib.ListN.{length, take}
-use Rattle.octets.specs.Writing.{Wrote}
-use Rattle.octets.proofs.Splices.{splice-nil}
 use Rattle.typed.specs.declared.Form.{Form}
 use Rattle.typed.specs.declared.Form.TheVariants.{Blank, Digit, Lead, Number, Numbered, Octets, Half, Refused, Other}
 use Rattle.typed.specs.declared.Line.{Line}
 use Rattle.typed.specs.Forms.{Small, Typed, fresh, typed, typed_all, typed_in}
 use Rattle.typed.specs.Scanning.{is_feed, before_feed, has_feed, behind_feed}
-use Rattle.words.specs.Lines.{not_a_message}
+use Rattle.words.specs.Lines.{message_lines, not_a_message}
 use Rattle.desk.specs.Lines.{answer_by, answer_of, printed, last_of}
 
 -- ---- what a line prints that stands for none of the others
@@ -30,6 +28,13 @@ other_form (Half h) s b r n m o = refl
 other_form (Refused k) s b r n m o = absurd (r k refl)
 other_form Other s b r n m o = refl
 
+-- a message, and a number and one
+pub message_form : (f : Form) (s : List ℕ) → ((n : ℕ) × (f ≡ Number n)) ⊎ (((n : ℕ) × (f ≡ Numbered n)) ⊎ (f ≡ Octets)) → answer_by f s ≡ message_lines s
+unfolding answer_by
+message_form f s (inl h) = rw h.1
+message_form f s (inr (inl h)) = rw h.1
+message_form f s (inr (inr h)) = rw h
+
 -- what a line prints, by its form
 pub form-answer : (room : List ℕ) (l : Line) (f : Form) → l.form ≡ f → answer_of (typed_in room l) ≡ answer_by f (take l.count room)
 unfolding answer_of
@@ -37,9 +42,6 @@ form-answer room l f e = ap (λ (x : Form). answer_by x (take l.count room)) e
 
 pub refused-small : (f : Form) (n : ℕ) → f ≡ Refused n → Small f → n < 100
 refused-small f n e h = subst Small e h
-
-pub wrote_nothing : (out : List ℕ) (at : ℕ) → Wrote out at [] at out
-wrote_nothing out at = (omega arith, sym (splice-nil out at))
 
 -- ---- up to a line feed, and behind it
 

@@ -1,13 +1,13 @@
 -- What lines print: each where it ends, one after another; and the line that goes on behind the last line feed.
-use Rattle.std.specs.Prelude.{ℕ, ◌≤◌, ◌<◌, ◌≡◌, cond, List, [], ◌∷◌, ◌++◌, length, take, drop}
+use Rattle.std.specs.Prelude.{ℕ, ◌≤◌, ◌<◌, ◌≡◌, cond, List, [], ◌∷◌, ◌++◌, length, take, drop, Result, Ok, Err}
 use Rattle.typed.specs.declared.Form.{Form}
 use Rattle.typed.specs.declared.Form.TheVariants.{Blank, Digit, Lead, Number, Numbered, Octets, Half, Refused, Other}
 use Rattle.typed.specs.Forms.{Typed, fresh, typed, typed_in, Keeps}
 use Rattle.typed.specs.Scanning.{is_feed}
 use Rattle.text.specs.Lines.{line}
 use Rattle.words.specs.Lines.{message_lines, not_a_message}
-use Rattle.desk.specs.declared.Served.{Served}
-use Rattle.desk.specs.declared.Served.TheVariants.{Goes, Closed}
+use Rattle.typed.specs.declared.Line.{Line}
+use Rattle.stdio.specs.declared.Failure.{Failure}
 
 -- by what a line stands for: nothing, a message, a number, or anything else (RULES 21)
 unfoldable pub answer_by : Form → List ℕ → List ℕ
@@ -44,7 +44,7 @@ pub record Batched (held : List ℕ) (t : Typed) (from : ℕ) (t' : Typed) (from
   pub within : from' ≤ length held
   pub short : at ≤ length out
 
--- all that is held has been taken, and the line goes on
-abbrev pub Serves : List ℕ → Typed → Served → List ℕ → Type 0
-Serves held t (Goes l) room = (typed_in room l ≡ last_of t held) × Keeps room l
-Serves held t Closed room = Unit {0}
+-- all that is held has been taken, and the line goes on; nothing is said where output cannot be written
+abbrev pub Serves : List ℕ → Typed → Result Line Failure → List ℕ → Type 0
+Serves held t (Ok l) room = (typed_in room l ≡ last_of t held) × Keeps room l
+Serves held t (Err e) room = Unit {0}

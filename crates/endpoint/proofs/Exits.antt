@@ -21,27 +21,28 @@ use Rattle.meaning.proofs.Checked.{unlocated}
 use Rattle.meaning.proofs.Kept.{idled}
 use Rattle.meaning.proofs.Numbers.{Taken, Measured, length-right}
 use Rattle.octets.proofs.Splices.{part_is}
-use Rattle.endpoint.specs.declared.Outcome.{Outcome}
-use Rattle.endpoint.specs.declared.Outcome.TheVariants.{Done, MemoryUnsound, MessageEmpty, MessageTooLong, TypeUnknown, LengthWrong, OperationMalformed, ReplyDoesNotFit, Idle, NothingPending, AlreadyWaiting, NotificationRoomTooSmall, NotPermitted, ProfileUnknown, SendAgain, GivenUp}
+use Rattle.std.specs.Prelude.{Ok, Err}
+use Rattle.endpoint.specs.declared.Done.{Done}
+use Rattle.endpoint.specs.declared.Done.TheVariants.{Written}
+use Rattle.endpoint.specs.declared.Refusal.{Refusal}
+use Rattle.endpoint.specs.declared.Refusal.TheVariants.{OperationMalformed}
 use Rattle.endpoint.specs.Outcomes.{number_of, length_of, position_of, Gives, reply, command, acknowledgement}
 
 -- a refusal: the number, and nothing changed
-pub gives_number : (m room : List ℕ) (n : ℕ) (r : Outcome) {o : calls.Outcome} → o ≡ number_only n m room → number_of r ≡ n → length_of r ≡ 0 → position_of r ≡ 0 → Gives o r m room
-gives_number m room n r e a b p = rw e (record { number = a; written = b; position = p; memory_is = refl; room_is = refl })
+pub gives_number : (m room : List ℕ) (n : ℕ) (why : Refusal) {o : calls.Outcome} → o ≡ number_only n m room → number_of (Err why) ≡ n → position_of (Err why) ≡ 0 → Gives o (Err why) m room
+gives_number m room n why e a p = rw e (record { number = a; written = refl; position = p; memory_is = refl; room_is = refl })
 
 -- and where it broke
-pub gives_broken : (m room : List ℕ) (p : ℕ) {o : calls.Outcome} → o ≡ located p (number_only 6 m room) → Gives o (OperationMalformed p) m room
-unfolding number_of length_of position_of
+pub gives_broken : (m room : List ℕ) (p : ℕ) {o : calls.Outcome} → o ≡ located p (number_only 6 m room) → Gives o (Err (OperationMalformed p)) m room
 gives_broken m room p e = rw e (record { number = refl; written = refl; position = refl; memory_is = refl; room_is = refl })
 
 pub gives_done : (w m room : List ℕ) (n : ℕ) {o : calls.Outcome} {m' room' : List ℕ} → o ≡ done w m room → n ≡ length w → m' ≡ m → room' ≡ w ++ drop (length w) room
-    → Gives o (Done n) m' room'
-unfolding number_of length_of position_of
+    → Gives o (Ok (Written n)) m' room'
 gives_done w m room n e a b c = rw e (record { number = refl; written = a; position = refl; memory_is = b; room_is = c })
 
 -- a call without a room: nothing written, and the memory that it leaves
-pub gives_left : (m : List ℕ) (n : ℕ) (r : Outcome) {o : calls.Outcome} {m' : List ℕ} → o ≡ number_only n m [] → number_of r ≡ n → length_of r ≡ 0 → position_of r ≡ 0 → m' ≡ m → Gives o r m' []
-gives_left m n r e a b p c = rw e (record { number = a; written = b; position = p; memory_is = c; room_is = refl })
+pub gives_left : (m : List ℕ) (n : ℕ) (d : Done) {o : calls.Outcome} {m' : List ℕ} → o ≡ number_only n m [] → number_of (Ok d) ≡ n → length_of (Ok d) ≡ 0 → m' ≡ m → Gives o (Ok d) m' []
+gives_left m n d e a b c = rw e (record { number = a; written = b; position = refl; memory_is = c; room_is = refl })
 
 -- ---- a whole list of operations
 
@@ -110,46 +111,6 @@ module _ (p : ℕ) (m room : List ℕ) (s : sound_in p m ≡ true) (h : 1600 ≤
   pub build_nothing : nonempty (reports p m entry_count) ≡ false → build p m room ≡ number_only 9 m room
   unfolding build build_checks call first_failed when_passed
   build_nothing n = simp (s, le-leb 1600 (length room) h, w, n)
-
--- ---- what is said of an outcome
-
-pub nothing_written : (r : Outcome) → ((n : ℕ) → r ≡ Done n → ⊥) → length_of r ≡ 0
-unfolding length_of
-nothing_written (Done n) t = absurd (t n refl)
-nothing_written MemoryUnsound t = refl
-nothing_written MessageEmpty t = refl
-nothing_written MessageTooLong t = refl
-nothing_written TypeUnknown t = refl
-nothing_written LengthWrong t = refl
-nothing_written (OperationMalformed p) t = refl
-nothing_written ReplyDoesNotFit t = refl
-nothing_written Idle t = refl
-nothing_written NothingPending t = refl
-nothing_written AlreadyWaiting t = refl
-nothing_written NotificationRoomTooSmall t = refl
-nothing_written NotPermitted t = refl
-nothing_written ProfileUnknown t = refl
-nothing_written SendAgain t = refl
-nothing_written GivenUp t = refl
-
-pub nowhere : (r : Outcome) → ((p : ℕ) → r ≡ OperationMalformed p → ⊥) → position_of r ≡ 0
-unfolding position_of
-nowhere (Done n) t = refl
-nowhere MemoryUnsound t = refl
-nowhere MessageEmpty t = refl
-nowhere MessageTooLong t = refl
-nowhere TypeUnknown t = refl
-nowhere LengthWrong t = refl
-nowhere (OperationMalformed p) t = absurd (t p refl)
-nowhere ReplyDoesNotFit t = refl
-nowhere Idle t = refl
-nowhere NothingPending t = refl
-nowhere AlreadyWaiting t = refl
-nowhere NotificationRoomTooSmall t = refl
-nowhere NotPermitted t = refl
-nowhere ProfileUnknown t = refl
-nowhere SendAgain t = refl
-nowhere GivenUp t = refl
 
 -- one octet written at the room's start
 pub first-set : (room : List ℕ) (x : ℕ) → 1 ≤ length room → set room 0 x ≡ (x ∷ []) ++ drop 1 room

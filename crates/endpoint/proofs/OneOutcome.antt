@@ -1,5 +1,5 @@
 -- What a contract says of its caller's octets: what was written is found in the room, and two outcomes that one definition gives are equal.
-use Prim.Native.Nat.{ℕ, ◌≤◌}
+use Prim.Native.Nat.{ℕ, zero, suc, ◌≤◌}
 use native.Mathlib.Omega.{arith}
 use mathlib.Core.Path.{◌≡◌, refl, sym, ◌∙◌}
 use mathlib.Core.Bool.{cond}
@@ -12,9 +12,11 @@ use Rattle.meaning.specs.FormB.{message, local_value, build, expiry, make_fresh}
 use Rattle.meaning.proofs.Refused.{RoomAfter}
 use Rattle.meaning.proofs.Sendings.{take_message, build_in}
 use Rattle.meaning.proofs.Formed.{gives_lent, room_of, lent-room}
-use Rattle.endpoint.specs.declared.Outcome.{Outcome}
-use Rattle.endpoint.specs.declared.Outcome.TheVariants.{Done, MemoryUnsound, MessageEmpty, MessageTooLong, TypeUnknown, LengthWrong, OperationMalformed, ReplyDoesNotFit, Idle, NothingPending, AlreadyWaiting, NotificationRoomTooSmall, NotPermitted, ProfileUnknown, SendAgain, GivenUp}
-use Rattle.endpoint.specs.Outcomes.{number_of, length_of, position_of, Gives}
+use Rattle.std.specs.Prelude.{Ok, Err}
+use Rattle.endpoint.specs.declared.Done.TheVariants.{Written, SendAgain, GivenUp}
+use Rattle.endpoint.specs.declared.Refusal.{Refusal}
+use Rattle.endpoint.specs.declared.Refusal.TheVariants.{MemoryUnsound, MessageEmpty, MessageTooLong, TypeUnknown, LengthWrong, OperationMalformed, ReplyDoesNotFit, Idle, NothingPending, AlreadyWaiting, NotificationRoomTooSmall, NotPermitted, ProfileUnknown}
+use Rattle.endpoint.specs.Outcomes.{Outcome, number_of, length_of, position_of, Gives}
 
 -- ---- what was written
 
@@ -49,32 +51,33 @@ Allows o x = Gives o x.outcome x.memory x.room
 
 -- a number, a length and a position belong to one outcome
 
-refusals : ℕ → List Outcome
+refusals : ℕ → List Refusal
 refusals p =
     MemoryUnsound ∷ MessageEmpty ∷ MessageTooLong ∷ TypeUnknown ∷ LengthWrong ∷ OperationMalformed p ∷ ReplyDoesNotFit ∷ Idle ∷ NothingPending ∷ AlreadyWaiting
     ∷ NotificationRoomTooSmall ∷ NotPermitted ∷ []
 
 outcome_of : ℕ → ℕ → ℕ → Outcome
-outcome_of k n p = cond (eqb k 18) ProfileUnknown (cond (eqb k 20) SendAgain (get_or (Done n ∷ refusals p) k GivenUp))
+outcome_of zero n p = Ok (Written n)
+outcome_of (suc k) n p = cond (eqb k 19) (Ok SendAgain) (cond (eqb k 20) (Ok GivenUp) (Err (get_or (refusals p) k ProfileUnknown)))
 
 outcome_is : (r : Outcome) → outcome_of (number_of r) (length_of r) (position_of r) ≡ r
-unfolding outcome_of refusals number_of length_of position_of
-outcome_is (Done n) = refl
-outcome_is MemoryUnsound = refl
-outcome_is MessageEmpty = refl
-outcome_is MessageTooLong = refl
-outcome_is TypeUnknown = refl
-outcome_is LengthWrong = refl
-outcome_is (OperationMalformed p) = refl
-outcome_is ReplyDoesNotFit = refl
-outcome_is Idle = refl
-outcome_is NothingPending = refl
-outcome_is AlreadyWaiting = refl
-outcome_is NotificationRoomTooSmall = refl
-outcome_is NotPermitted = refl
-outcome_is ProfileUnknown = refl
-outcome_is SendAgain = refl
-outcome_is GivenUp = refl
+unfolding outcome_of refusals
+outcome_is (Ok (Written n)) = refl
+outcome_is (Ok SendAgain) = refl
+outcome_is (Ok GivenUp) = refl
+outcome_is (Err MemoryUnsound) = refl
+outcome_is (Err MessageEmpty) = refl
+outcome_is (Err MessageTooLong) = refl
+outcome_is (Err TypeUnknown) = refl
+outcome_is (Err LengthWrong) = refl
+outcome_is (Err (OperationMalformed p)) = refl
+outcome_is (Err ReplyDoesNotFit) = refl
+outcome_is (Err Idle) = refl
+outcome_is (Err NothingPending) = refl
+outcome_is (Err AlreadyWaiting) = refl
+outcome_is (Err NotificationRoomTooSmall) = refl
+outcome_is (Err NotPermitted) = refl
+outcome_is (Err ProfileUnknown) = refl
 
 one_seen : (x y : Seen) → x.outcome ≡ y.outcome → x.memory ≡ y.memory → x.room ≡ y.room → x ≡ y
 one_seen x y a b c = rw (a, b, c)

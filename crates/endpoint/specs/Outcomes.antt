@@ -1,66 +1,44 @@
 -- The number, the length and the position of each outcome, and what it means that a call gives what a definition says.
-use Rattle.std.specs.Prelude.{ℕ, ◌≡◌, List, length}
+use Rattle.std.specs.Prelude.{ℕ, ◌≡◌, List, length, Result, Ok, Err}
 use Rattle.meaning.specs.Checks.{passed, check}
 use Rattle.meaning.specs.Memory.{waiting}
 use Rattle.meaning.specs.Operation.{parse, or_none}
 use Rattle.meaning.specs.Calls.{Handled, done, call, carried_out, acknowledged, fits}
 use Rattle.meaning.specs.Calls as calls
-use Rattle.endpoint.specs.declared.Outcome.{Outcome}
-use Rattle.endpoint.specs.declared.Outcome.TheVariants.{Done, MemoryUnsound, MessageEmpty, MessageTooLong, TypeUnknown, LengthWrong, OperationMalformed, ReplyDoesNotFit, Idle, NothingPending, AlreadyWaiting, NotificationRoomTooSmall, NotPermitted, ProfileUnknown, SendAgain, GivenUp}
+use Rattle.endpoint.specs.declared.Done.{Done}
+use Rattle.endpoint.specs.declared.Done.TheVariants.{Written, SendAgain, GivenUp}
+use Rattle.endpoint.specs.declared.Refusal.{Refusal}
+use Rattle.endpoint.specs.declared.Refusal.TheVariants.{MemoryUnsound, MessageEmpty, MessageTooLong, TypeUnknown, LengthWrong, OperationMalformed, ReplyDoesNotFit, Idle, NothingPending, AlreadyWaiting, NotificationRoomTooSmall, NotPermitted, ProfileUnknown}
 
-unfoldable pub number_of : Outcome → ℕ
-number_of (Done n) = 0
-number_of MemoryUnsound = 1
-number_of MessageEmpty = 2
-number_of MessageTooLong = 3
-number_of TypeUnknown = 4
-number_of LengthWrong = 5
-number_of (OperationMalformed p) = 6
-number_of ReplyDoesNotFit = 7
-number_of Idle = 8
-number_of NothingPending = 9
-number_of AlreadyWaiting = 10
-number_of NotificationRoomTooSmall = 11
-number_of NotPermitted = 12
-number_of ProfileUnknown = 18
-number_of SendAgain = 20
-number_of GivenUp = 21
+-- what a call answers
+abbrev pub Outcome : Type 0
+Outcome = Result Done Refusal
 
-unfoldable pub length_of : Outcome → ℕ
-length_of (Done n) = n
-length_of MemoryUnsound = 0
-length_of MessageEmpty = 0
-length_of MessageTooLong = 0
-length_of TypeUnknown = 0
-length_of LengthWrong = 0
-length_of (OperationMalformed p) = 0
-length_of ReplyDoesNotFit = 0
-length_of Idle = 0
-length_of NothingPending = 0
-length_of AlreadyWaiting = 0
-length_of NotificationRoomTooSmall = 0
-length_of NotPermitted = 0
-length_of ProfileUnknown = 0
-length_of SendAgain = 0
-length_of GivenUp = 0
+abbrev pub number_of : Outcome → ℕ
+number_of (Ok (Written n)) = 0
+number_of (Ok SendAgain) = 20
+number_of (Ok GivenUp) = 21
+number_of (Err MemoryUnsound) = 1
+number_of (Err MessageEmpty) = 2
+number_of (Err MessageTooLong) = 3
+number_of (Err TypeUnknown) = 4
+number_of (Err LengthWrong) = 5
+number_of (Err (OperationMalformed p)) = 6
+number_of (Err ReplyDoesNotFit) = 7
+number_of (Err Idle) = 8
+number_of (Err NothingPending) = 9
+number_of (Err AlreadyWaiting) = 10
+number_of (Err NotificationRoomTooSmall) = 11
+number_of (Err NotPermitted) = 12
+number_of (Err ProfileUnknown) = 18
 
-unfoldable pub position_of : Outcome → ℕ
-position_of (Done n) = 0
-position_of MemoryUnsound = 0
-position_of MessageEmpty = 0
-position_of MessageTooLong = 0
-position_of TypeUnknown = 0
-position_of LengthWrong = 0
-position_of (OperationMalformed p) = p
-position_of ReplyDoesNotFit = 0
-position_of Idle = 0
-position_of NothingPending = 0
-position_of AlreadyWaiting = 0
-position_of NotificationRoomTooSmall = 0
-position_of NotPermitted = 0
-position_of ProfileUnknown = 0
-position_of SendAgain = 0
-position_of GivenUp = 0
+abbrev pub length_of : Outcome → ℕ
+length_of (Ok (Written n)) = n
+length_of _ = 0
+
+abbrev pub position_of : Outcome → ℕ
+position_of (Err (OperationMalformed p)) = p
+position_of _ = 0
 
 -- A call that answered r and left this memory and this room gives the outcome o. What was written stands at the room's start.
 pub record Gives (o : calls.Outcome) (r : Outcome) (memory room : List ℕ) : Type 0 where

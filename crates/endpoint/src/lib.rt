@@ -15,15 +15,17 @@
 //                 with the reply 05 stops the timer
 //   delay_octets  a delay in nanoseconds as the value that `local_value` takes for it
 //
-// The five calls answer in one way, by an `Outcome`: done, with the length of what now stands at the room's start, or why
-// nothing was done. `number` gives the rules' number of it, `written` that length, and `position` where in the message a
+// The five calls answer in one way, by an `Outcome`: what was done, with the length of what now stands at the room's start, or
+// why nothing was done. `number` gives the rules' number of it, `written` that length, and `position` where in the message a
 // command breaks. The conversion refuses nothing and is lent nothing, so it gives the octets themselves.
 //
 // No call asks for anything: none has a `requires`. Each contract says by a definition of `meaning` under the call's name
 // what is answered and what every lent octet holds afterwards, and allows one outcome alone (`one_outcome`, in `OneOutcome`).
 //
 // Each call tests what it is lent and lends the memory behind the first octet on, to a function that knows of no form, with the
-// profile that this octet is where it decides something.
+// profile that this octet is where it decides something. Sound memory has that octet and 2,100 more, so each `unwrap` is proved, and
+// tests nothing. That memory is sound is a clause of these functions and no invariant of a type: a type would owe it after every
+// change within a call, a clause asks for it once.
 #![tactic(auto)]
 
 ghost use Rattle.std.specs.Prelude.{ℕ, ◌≤◌, ◌≡◌, true, [], length};
@@ -35,11 +37,13 @@ ghost use Rattle.meaning.specs.Operation.{parse, is_some};
 ghost use Rattle.meaning.specs.Delay.{delay};
 ghost use Rattle.meaning.specs.Calls.{message, local_value, build, expiry};
 ghost use Rattle.meaning.specs.FormB as form_b;
+ghost use Rattle.endpoint.specs.declared.Refusal.TheVariants.{OperationMalformed};
 ghost use Rattle.endpoint.specs.Outcomes.{number_of, length_of, position_of, Gives, acknowledgement, command};
 
 use delay::Nanoseconds;
 use notification::Moment;
-use operation::Wholeness;
+use operation::Malformed;
+use table::Memory;
 
 // What a host lends and keeps, in octets: the memory of a port, in form B; the longest message that is not refused for its length; a
 // room that takes every reply; a room that a notification is built in, and the longest notification, which is to be kept.
@@ -71,11 +75,18 @@ pub const RUNNING_LENGTH_AT: usize = RUNNING_CELL_AT + table::SIZE_AT;
 
 pub const RUNNING_AT: usize = table::BEHIND_AT + table::RUNNING_AT;
 
-// What a call answers: done, with the length of what it wrote; thirteen reasons why nothing was done, a malformed operation
-// with its position in the message; that a waiting notification is to be sent again, or has been given up.
+// What a call did: it wrote so many octets, 0 where it is lent no room; or a waiting notification is to be sent again, or has
+// been given up.
 #[derive(Clone, Copy)]
-pub enum Outcome {
-    Done(usize),
+pub enum Done {
+    Written(usize),
+    SendAgain,
+    GivenUp,
+}
+
+// Why nothing was done; a malformed operation with its position in the message.
+#[derive(Clone, Copy)]
+pub enum Refusal {
     MemoryUnsound,
     MessageEmpty,
     MessageTooLong,
@@ -89,31 +100,41 @@ pub enum Outcome {
     NotificationRoomTooSmall,
     NotPermitted,
     ProfileUnknown,
-    SendAgain,
-    GivenUp,
 }
+
+// A list of operations that breaks is refused with where it does.
+impl From<Malformed> for Refusal {
+    ghost from_gives = { λ m r. r ≡ OperationMalformed m.position };
+
+    fn from(malformed: Malformed) -> Refusal {
+        Refusal::OperationMalformed(malformed.position)
+    }
+}
+
+// What a call answers.
+pub type Outcome = Result<Done, Refusal>;
 
 // The number of an outcome.
 pub fn number(outcome: Outcome) -> usize
     ensures { result ≡ number_of outcome }
 {
     match outcome {
-        Outcome::Done(_) => 0,
-        Outcome::MemoryUnsound => 1,
-        Outcome::MessageEmpty => 2,
-        Outcome::MessageTooLong => 3,
-        Outcome::TypeUnknown => 4,
-        Outcome::LengthWrong => 5,
-        Outcome::OperationMalformed(_) => 6,
-        Outcome::ReplyDoesNotFit => 7,
-        Outcome::Idle => 8,
-        Outcome::NothingPending => 9,
-        Outcome::AlreadyWaiting => 10,
-        Outcome::NotificationRoomTooSmall => 11,
-        Outcome::NotPermitted => 12,
-        Outcome::ProfileUnknown => 18,
-        Outcome::SendAgain => 20,
-        Outcome::GivenUp => 21,
+        Ok(Done::Written(_)) => 0,
+        Ok(Done::SendAgain) => 20,
+        Ok(Done::GivenUp) => 21,
+        Err(Refusal::MemoryUnsound) => 1,
+        Err(Refusal::MessageEmpty) => 2,
+        Err(Refusal::MessageTooLong) => 3,
+        Err(Refusal::TypeUnknown) => 4,
+        Err(Refusal::LengthWrong) => 5,
+        Err(Refusal::OperationMalformed(_)) => 6,
+        Err(Refusal::ReplyDoesNotFit) => 7,
+        Err(Refusal::Idle) => 8,
+        Err(Refusal::NothingPending) => 9,
+        Err(Refusal::AlreadyWaiting) => 10,
+        Err(Refusal::NotificationRoomTooSmall) => 11,
+        Err(Refusal::NotPermitted) => 12,
+        Err(Refusal::ProfileUnknown) => 18,
     }
 }
 
@@ -121,7 +142,7 @@ pub fn number(outcome: Outcome) -> usize
 pub fn written(outcome: Outcome) -> usize
     ensures { result ≡ length_of outcome }
 {
-    let Outcome::Done(n) = outcome else {
+    let Ok(Done::Written(n)) = outcome else {
         return 0;
     };
     n
@@ -131,132 +152,130 @@ pub fn written(outcome: Outcome) -> usize
 pub fn position(outcome: Outcome) -> usize
     ensures { result ≡ position_of outcome }
 {
-    let Outcome::OperationMalformed(at) = outcome else {
+    let Err(Refusal::OperationMalformed(at)) = outcome else {
         return 0;
     };
     at
 }
 
 // An acknowledgement (RULES 14.11).
-fn acknowledge(memory: &mut [u8], room: &mut [u8]) -> Outcome
+fn acknowledge(memory: &mut Memory, room: &mut [u8]) -> Outcome
     requires { sound memory.old ≡ true }
     ensures { Gives (acknowledgement memory.old room.old) result memory.new room.new }
 {
     if !memory::waiting(memory) {
-        return Outcome::Idle;
+        return Err(Refusal::Idle);
     }
-    if room.len() < 1 {
-        return Outcome::ReplyDoesNotFit;
+    if room.is_empty() {
+        return Err(Refusal::ReplyDoesNotFit);
     }
     room[0] = wire::TYPE_NOTIFY_COMPLETE;
     notification::end_wait(memory, Moment::Acknowledged);
-    Outcome::Done(1)
+    Ok(Done::Written(1))
 }
 
 // A whole list of operations, carried out on a working copy, which is written back once the reply fits (RULES 10.13, 10.14).
-fn carry_out(memory: &mut [u8], list: &[u8], room: &mut [u8], profile: u8) -> Outcome
+fn carry_out(memory: &mut Memory, list: &[u8], room: &mut [u8], profile: u8) -> Outcome
     requires { (sound memory.old ≡ true) × (is_some (parse profile list.now) ≡ true) × (length list.now ≤ message_most) }
     ensures { Gives (command profile memory.old list.now room.old) result memory.new room.new }
 {
     let mut copy = [0u8; table::MEMORY_LENGTH];
     let taken = tally::take(memory, list, &mut copy, profile);
     let t = taken.tally;
-    let n = tally::reply_length(t, profile);
-    if !tally::fits(t, n, room.len()) {
-        return Outcome::ReplyDoesNotFit;
+    let n = t.reply_length(profile);
+    if !t.fits(n, room.len()) {
+        return Err(Refusal::ReplyDoesNotFit);
     }
     reply::write(memory, list, t, taken.changed, &mut copy, room, profile);
     octets::renew(memory, &copy, taken.changed);
-    Outcome::Done(n)
+    Ok(Done::Written(n))
 }
 
 // A message of type 01: its length, and whether every operation is whole.
-fn take_command(memory: &mut [u8], sent: &[u8], room: &mut [u8], profile: u8) -> Outcome
+fn take_command(memory: &mut Memory, sent: &[u8], room: &mut [u8], profile: u8) -> Outcome
     requires { (sound_in profile memory.old ≡ true) × (1 ≤ length sent.now) × (length sent.now ≤ message_most) × (octet sent.now 0 ≡ type_command) }
     ensures { Gives (message profile memory.old sent.now room.old) result memory.new room.new }
 {
     if sent.len() < wire::COMMAND_HEAD {
-        return Outcome::LengthWrong;
+        return Err(Refusal::LengthWrong);
     }
     let n = octets::get16(sent, 1);
     if n == 0 {
-        return Outcome::LengthWrong;
+        return Err(Refusal::LengthWrong);
     }
     if sent.len() < wire::COMMAND_HEAD + n {
-        return Outcome::LengthWrong;
+        return Err(Refusal::LengthWrong);
     }
     let list = &sent[wire::COMMAND_HEAD..wire::COMMAND_HEAD + n];
-    match operation::whole(list, profile) {
-        Wholeness::Whole => carry_out(memory, list, room, profile),
-        Wholeness::Broken(position) => Outcome::OperationMalformed(position),
-    }
+    operation::whole(list, profile)?;
+    carry_out(memory, list, room, profile)
 }
 
 // A message: a command or an acknowledgement.
-fn take_message(memory: &mut [u8], sent: &[u8], room: &mut [u8], profile: u8) -> Outcome
+fn take_message(memory: &mut Memory, sent: &[u8], room: &mut [u8], profile: u8) -> Outcome
     requires { sound_in profile memory.old ≡ true }
     ensures { Gives (message profile memory.old sent.now room.old) result memory.new room.new }
 {
-    if sent.len() < 1 {
-        return Outcome::MessageEmpty;
+    if sent.is_empty() {
+        return Err(Refusal::MessageEmpty);
     }
     if MESSAGE_MOST < sent.len() {
-        return Outcome::MessageTooLong;
+        return Err(Refusal::MessageTooLong);
     }
     match sent[0] {
         wire::TYPE_COMMAND => take_command(memory, sent, room, profile),
         wire::TYPE_NOTIFY_ACK => acknowledge(memory, room),
-        _ => Outcome::TypeUnknown,
+        _ => Err(Refusal::TypeUnknown),
     }
 }
 
 // A local value, which is the same in each profile.
-fn take_value(memory: &mut [u8], name: usize, value: &[u8]) -> Outcome
+fn take_value(memory: &mut Memory, name: usize, value: &[u8]) -> Outcome
     requires { sound memory.old ≡ true }
     ensures { (p : ℕ) → sound_in p memory.old ≡ true → Gives (local_value p memory.old name value.now) result memory.new [] }
 {
     if !local::permitted(name, value) {
-        return Outcome::NotPermitted;
+        return Err(Refusal::NotPermitted);
     }
     local::store(memory, table::place_of(name), value);
-    Outcome::Done(0)
+    Ok(Done::Written(0))
 }
 
 // A notification of all that is pending.
-fn build_due(memory: &mut [u8], room: &mut [u8], profile: u8) -> Outcome
+fn build_due(memory: &mut Memory, room: &mut [u8], profile: u8) -> Outcome
     requires { sound_in profile memory.old ≡ true }
     ensures { Gives (build profile memory.old room.old) result memory.new room.new }
 {
     if room.len() < NOTIFICATION_ROOM {
-        return Outcome::NotificationRoomTooSmall;
+        return Err(Refusal::NotificationRoomTooSmall);
     }
     if memory::waiting(memory) {
-        return Outcome::AlreadyWaiting;
+        return Err(Refusal::AlreadyWaiting);
     }
     let due = notification::count(memory);
     if due.values + due.absent == 0 {
-        return Outcome::NothingPending;
+        return Err(Refusal::NothingPending);
     }
     let end = notification::write(memory, due, room, profile);
     notification::begin_wait(memory);
-    Outcome::Done(end)
+    Ok(Done::Written(end))
 }
 
 // A timer expiry, which is the same in each profile.
-fn take_expiry(memory: &mut [u8]) -> Outcome
+fn take_expiry(memory: &mut Memory) -> Outcome
     requires { sound memory.old ≡ true }
     ensures { (p : ℕ) → sound_in p memory.old ≡ true → Gives (expiry p memory.old) result memory.new [] }
 {
     if !memory::waiting(memory) {
-        return Outcome::Idle;
+        return Err(Refusal::Idle);
     }
     let n = memory::expiries(memory);
     if n < wire::EXPIRIES_MOST {
         memory::set_timer(memory, table::WAITING, n + 1);
-        return Outcome::SendAgain;
+        return Ok(Done::SendAgain);
     }
     notification::end_wait(memory, Moment::GivenUp);
-    Outcome::GivenUp
+    Ok(Done::GivenUp)
 }
 
 // A message taken: a command or an acknowledgement.
@@ -264,15 +283,10 @@ pub fn message(memory: &mut [u8], sent: &[u8], room: &mut [u8]) -> Outcome
     ensures { Gives (form_b.message memory.old sent.now room.old) result memory.new room.new }
 {
     if !soundness::sound_form_b(memory) {
-        return Outcome::MemoryUnsound;
+        return Err(Refusal::MemoryUnsound);
     }
-    let profile = memory[PROFILE_AT];
-    take_message(
-        &mut memory[table::BEHIND_AT..table::FORM_LENGTH],
-        sent,
-        room,
-        profile,
-    )
+    let (profile, rest) = memory.split_first_mut().unwrap();
+    take_message(rest.as_mut_array().unwrap(), sent, room, *profile)
 }
 
 // A local value taken: a name that the port sets, and its value, or none to make it absent.
@@ -280,13 +294,10 @@ pub fn local_value(memory: &mut [u8], name: usize, value: &[u8]) -> Outcome
     ensures { Gives (form_b.local_value memory.old name value.now) result memory.new [] }
 {
     if !soundness::sound_form_b(memory) {
-        return Outcome::MemoryUnsound;
+        return Err(Refusal::MemoryUnsound);
     }
-    take_value(
-        &mut memory[table::BEHIND_AT..table::FORM_LENGTH],
-        name,
-        value,
-    )
+    let (_, rest) = memory.split_first_mut().unwrap();
+    take_value(rest.as_mut_array().unwrap(), name, value)
 }
 
 // A notification built of all that is pending. It is to be sent, and waits for its acknowledgement.
@@ -294,14 +305,10 @@ pub fn build(memory: &mut [u8], room: &mut [u8]) -> Outcome
     ensures { Gives (form_b.build memory.old room.old) result memory.new room.new }
 {
     if !soundness::sound_form_b(memory) {
-        return Outcome::MemoryUnsound;
+        return Err(Refusal::MemoryUnsound);
     }
-    let profile = memory[PROFILE_AT];
-    build_due(
-        &mut memory[table::BEHIND_AT..table::FORM_LENGTH],
-        room,
-        profile,
-    )
+    let (profile, rest) = memory.split_first_mut().unwrap();
+    build_due(rest.as_mut_array().unwrap(), room, *profile)
 }
 
 // A timer expiry taken, of the timer that runs from the sending of a notification.
@@ -309,9 +316,10 @@ pub fn expiry(memory: &mut [u8]) -> Outcome
     ensures { Gives (form_b.expiry memory.old) result memory.new [] }
 {
     if !soundness::sound_form_b(memory) {
-        return Outcome::MemoryUnsound;
+        return Err(Refusal::MemoryUnsound);
     }
-    take_expiry(&mut memory[table::BEHIND_AT..table::FORM_LENGTH])
+    let (_, rest) = memory.split_first_mut().unwrap();
+    take_expiry(rest.as_mut_array().unwrap())
 }
 
 // Memory made fresh in a profile, whatever it holds.
@@ -319,14 +327,15 @@ pub fn make_fresh(memory: &mut [u8], profile: u8) -> Outcome
     ensures { Gives (form_b.make_fresh memory.old profile) result memory.new [] }
 {
     if memory.len() != MEMORY_LENGTH {
-        return Outcome::MemoryUnsound;
+        return Err(Refusal::MemoryUnsound);
     }
     if !table::is_profile(profile) {
-        return Outcome::ProfileUnknown;
+        return Err(Refusal::ProfileUnknown);
     }
-    memory[PROFILE_AT] = profile;
-    memory::make_fresh(&mut memory[table::BEHIND_AT..table::FORM_LENGTH]);
-    Outcome::Done(0)
+    let (first, rest) = memory.split_first_mut().unwrap();
+    *first = profile;
+    memory::make_fresh(rest.as_mut_array().unwrap());
+    Ok(Done::Written(0))
 }
 
 // The conversion of a delay to the eight octets of its value, the LOW octet first.

@@ -7,7 +7,9 @@ ghost use Rattle.meaning.specs.Block.{form_and_fit};
 ghost use Rattle.meaning.specs.Memory.{sound};
 ghost use Rattle.meaning.specs.Gates.{entry_at, gates_of, gates_number};
 ghost use Rattle.meaning.specs.FormB as form_b;
-ghost use Rattle.gates.specs.Answers.{refusal_number, answer_of, running};
+ghost use Rattle.gates.specs.Answers.{refusal_number, told, answer_of, running};
+
+use table::{Flag, Memory};
 
 // Why there is no answer: the memory is not that of a port, or no block runs.
 #[derive(Clone, Copy)]
@@ -16,13 +18,16 @@ pub enum Refusal {
     NothingRuns,
 }
 
-// The answer: refused; the instant is before the base time; or the gate states, the entry's number from 0, and the
-// nanoseconds to the next change.
+// The answer: the instant is before the base time; or the gate states, the entry's number from 0, and the nanoseconds to
+// the next change.
 #[derive(Clone, Copy)]
 pub enum Gates {
-    Refused(Refusal),
     NotStarted,
-    Open(u8, usize, u64),
+    Open {
+        states: u8,
+        entry: usize,
+        nanoseconds: u64,
+    },
 }
 
 // The number of a refusal.
@@ -36,39 +41,44 @@ fn refusal_number(why: Refusal) -> usize
 }
 
 // The number of an answer: 0 unless it is refused.
-pub fn number(answer: Gates) -> usize
+pub fn number(answer: Result<Gates, Refusal>) -> usize
     ensures { result ≡ gates_number (answer_of answer) }
 {
     match answer {
-        Gates::Refused(why) => refusal_number(why),
-        Gates::NotStarted => 0,
-        Gates::Open(_, _, _) => 0,
+        Ok(_) => 0,
+        Err(why) => refusal_number(why),
     }
 }
 
 // The entry at a time in the cycle: the first whose interval has not ended, past all of them the last.
 fn entry_at(list: &[u8], time: u64, cycle: u64) -> Gates
     requires { (7 ≤ length list.now) × (length list.now ≤ 448) × (length list.now % 7 ≡ 0) × (time < cycle) }
-    ensures { answer_of result ≡ entry_at (length list.now / 7 - 1) list.now 0 0 time cycle }
+    ensures { told result ≡ entry_at (length list.now / 7 - 1) list.now 0 0 time cycle }
 {
-    let mut k: usize = 0;
-    let mut at: usize = 0;
+    let last = list.len() / values::ENTRY_LENGTH - 1;
     let mut end: u64 = 0;
-    while at + values::ENTRY_LENGTH < list.len() {
+    for k in 0..last {
+        let at = values::ENTRY_LENGTH * k;
         end += octets::get32(list, at + values::INTERVAL_AT);
         if time < end {
-            return Gates::Open(list[at + values::STATES_AT], k, end - time);
+            return Gates::Open {
+                states: list[at + values::STATES_AT],
+                entry: k,
+                nanoseconds: end - time,
+            };
         }
-        at += values::ENTRY_LENGTH;
-        k += 1;
     }
-    Gates::Open(list[at + values::STATES_AT], k, cycle - time)
+    Gates::Open {
+        states: list[values::ENTRY_LENGTH * last + values::STATES_AT],
+        entry: last,
+        nanoseconds: cycle - time,
+    }
 }
 
 // What a block answers.
 fn ask(block: &[u8], instant: i64) -> Gates
     requires { form_and_fit block.now ≡ true }
-    ensures { answer_of result ≡ gates_of block.now instant }
+    ensures { told result ≡ gates_of block.now instant }
 {
     if instant < 0 {
         return Gates::NotStarted;
@@ -79,22 +89,24 @@ fn ask(block: &[u8], instant: i64) -> Gates
 }
 
 // What the memory of a port answers, whatever its profile: its running block, if there is one.
-fn ask_memory(m: &[u8], instant: i64) -> Gates
+fn ask_memory(m: &Memory, instant: i64) -> Result<Gates, Refusal>
     requires { sound m.now ≡ true }
     ensures { answer_of result ≡ running m.now instant }
 {
-    if !memory::present(m, table::COMMIT) {
-        return Gates::Refused(Refusal::NothingRuns);
+    if !memory::has(m, table::COMMIT, Flag::Present) {
+        return Err(Refusal::NothingRuns);
     }
-    ask(memory::body(m, table::COMMIT), instant)
+    Ok(ask(memory::body(m, table::COMMIT), instant))
 }
 
-// Which gates are open at an instant, in nanoseconds from the base time.
-pub fn gates_at(memory: &[u8], instant: i64) -> Gates
+// Which gates are open at an instant, in nanoseconds from the base time. Behind the first octet of sound memory stand as many as
+// memory has, so `unwrap` is proved, and tests nothing.
+pub fn gates_at(memory: &[u8], instant: i64) -> Result<Gates, Refusal>
     ensures { answer_of result ≡ form_b.gates memory.now instant }
 {
     if !soundness::sound_form_b(memory) {
-        return Gates::Refused(Refusal::MemoryUnsound);
+        return Err(Refusal::MemoryUnsound);
     }
-    ask_memory(&memory[table::BEHIND_AT..], instant)
+    let m = memory[table::BEHIND_AT..].as_array().unwrap();
+    ask_memory(m, instant)
 }

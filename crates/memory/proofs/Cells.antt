@@ -1,17 +1,38 @@
 -- A cell written octet by octet, a cell or a room that is lent on and comes back, fresh memory step by step.
-use Prim.Native.Nat.{ℕ, ◌+◌, ◌-◌, ◌*◌, ◌≤◌}
+use Prim.Native.Nat.{ℕ, zero, suc, ◌<◌, ◌+◌, ◌-◌, ◌*◌, ◌≤◌}
 use native.Mathlib.Omega.{arith}
 use native.Mathlib.Nat.{sub-zero}
 use mathlib.Core.Path.{◌≡◌, refl, ap, ◌∙◌}
 use mathlib.Core.List.{List, [], ◌∷◌, ◌++◌}
-use lib.ListN.{length, take, set}
+use lib.ListN.{length, take, drop, set, get_or}
+use lib.Seq.{drop-drop}
 use borrow.Rule.Slice.PartMut.{put_mid}
-use Rattle.meaning.specs.Octets.{be16, splice, zeros}
+use Rattle.std.specs.Simd.{first_chunks}
+use Rattle.meaning.specs.Octets.{be16, part, splice, zeros}
 use Rattle.meaning.specs.Table.{rows, rooms, row_at, room_at}
-use Rattle.meaning.specs.Memory.{bit, flags, cell_of, room_of, put_cell, put_room, put, absent, fresh}
+use Rattle.meaning.specs.Memory.{cell, present, subscribed, pending, in_flight, bit, flags, cell_of, room_of, put_cell, put_room, put, absent, fresh}
 use Rattle.meaning.proofs.Lists.{splice-length}
 use Rattle.meaning.proofs.Places.{length-cell_of, length-room_of}
 use Rattle.octets.proofs.Splices.{then, splice_all, two_stores, lent_back}
+use Rattle.table.specs.declared.Flag.{Flag}
+use Rattle.table.specs.declared.Flag.TheVariants.{Present, Subscribed, Pending, InFlight}
+use Rattle.memory.specs.Flags.{marked, has}
+
+-- the cell at a place is a chunk of memory, as many as there are
+pub chunk-is : (n k : ℕ) (m : List ℕ) → k < n → get_or (first_chunks 6 n m) k [] ≡ cell m k
+unfolding cell part
+chunk-is zero k m h = absurd (omega (arith, h))
+chunk-is (suc n) zero m h = refl
+chunk-is (suc n) (suc k) m h =
+    chunk-is n k (drop 6 m) (omega (arith, h)) ∙ ap (take 6) (drop-drop (6 * k) 6 m ∙ ap (λ (i : ℕ). drop i m) (omega arith))
+
+-- an entry has the flags of its cell
+pub marked-has : (f : Flag) (m : List ℕ) (k : ℕ) → marked f (cell m k) ≡ has f m k
+unfolding present subscribed pending in_flight
+marked-has Present m k = refl
+marked-has Subscribed m k = refl
+marked-has Pending m k = refl
+marked-has InFlight m k = refl
 
 -- name, flags, zero octet and length, one behind another
 pub cell-written : (c : List ℕ) (name f n : ℕ) {s₁ s₃ : List ℕ} → length c ≡ 6 → s₁ ≡ splice c 0 (be16 name)

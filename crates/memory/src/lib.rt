@@ -4,26 +4,27 @@
 
 ghost use Rattle.std.specs.Prelude.{◌%◌, ◌≤◌, ◌<◌, ◌≡◌, true, false, ◌||◌, [], ◌∷◌, ◌++◌, length};
 ghost use Rattle.meaning.specs.Octets.{octet, be16, splice};
-ghost use Rattle.meaning.specs.Table.{entry_count, memory_length, row_at, admin_base_time, admin_control_list_length, admin_cycle_time, commit};
-ghost use Rattle.meaning.specs.Memory.{flags_at, flag_limit, cell, room, is_present, is_subscribed, is_pending, size, present, subscribed, pending, in_flight, body, waiting, expiries, bit, flags, put_cell, put_room, put, store, set_marks, set_timer, four_present, absent, fresh};
+ghost use Rattle.meaning.specs.Table.{entry_count, row_at, admin_base_time, admin_control_list_length, admin_cycle_time, commit};
+ghost use Rattle.meaning.specs.Memory.{flags_at, flag_limit, cell, room, size, subscribed, pending, in_flight, body, waiting, expiries, bit, flags, put_cell, put_room, put, store, set_marks, set_timer, four_present, absent, fresh};
 ghost use Rattle.meaning.specs.Profile.{on_wire};
 ghost use Rattle.meaning.specs.Step.{block};
 ghost use Rattle.meaning.specs.Moves.{none_in_flight};
+ghost use Rattle.memory.specs.Flags.{marked, has};
+
+use table::{Cell, Flag, Memory};
 
 // ---- what memory says of a parameter
 
-// The cell at a place.
-pub fn cell(m: &[u8], k: usize) -> &[u8]
-    requires { (length m.now ≡ memory_length) × (k < entry_count) }
-    ensures { (result.now ≡ cell m.now k) × (length result.now ≡ 6) }
+// The cell at a place. The cells are the first chunks of memory.
+pub fn cell(m: &Memory, k: usize) -> &Cell
+    requires { k < entry_count }
+    ensures { result.now ≡ cell m.now k }
 {
-    let at = table::CELL_LENGTH * k;
-    &m[at..at + table::CELL_LENGTH]
+    &m.as_chunks().0[k]
 }
 
 // The room at a place.
-pub fn room(m: &[u8], k: usize) -> &[u8]
-    requires { length m.now ≡ memory_length }
+pub fn room(m: &Memory, k: usize) -> &[u8]
     ensures { (result.now ≡ room m.now k) × (length result.now ≡ (row_at k).most) }
 {
     let row = table::row_at(k);
@@ -32,135 +33,100 @@ pub fn room(m: &[u8], k: usize) -> &[u8]
     &m[start..end]
 }
 
-// Flags of a cell.
-pub fn is_present(c: &[u8]) -> bool
-    requires { length c.now ≡ 6 }
-    ensures { result ≡ is_present c.now }
+// Whether a cell has a flag.
+pub fn marked(c: &Cell, flag: Flag) -> bool
+    ensures { result ≡ marked flag c.now }
 {
-    c[table::FLAGS_AT] % 2 == 1
-}
-
-pub fn is_subscribed(c: &[u8]) -> bool
-    requires { length c.now ≡ 6 }
-    ensures { result ≡ is_subscribed c.now }
-{
-    c[table::FLAGS_AT] / table::SUBSCRIBED % 2 == 1
-}
-
-pub fn is_pending(c: &[u8]) -> bool
-    requires { length c.now ≡ 6 }
-    ensures { result ≡ is_pending c.now }
-{
-    c[table::FLAGS_AT] / table::PENDING % 2 == 1
+    let bit = match flag {
+        Flag::Present => table::PRESENT,
+        Flag::Subscribed => table::SUBSCRIBED,
+        Flag::Pending => table::PENDING,
+        Flag::InFlight => table::IN_FLIGHT,
+    };
+    c[table::FLAGS_AT] / bit % 2 == 1
 }
 
 // The length that a cell gives.
-pub fn size(c: &[u8]) -> usize
-    requires { length c.now ≡ 6 }
+pub fn size(c: &Cell) -> usize
     ensures { (result ≡ size c.now) × (result < 65536) }
 {
     octets::get16(c, table::SIZE_AT)
 }
 
-// Whether the value at a place is present.
-pub fn present(m: &[u8], k: usize) -> bool
-    requires { (length m.now ≡ memory_length) × (k < entry_count) }
-    ensures { result ≡ present m.now k }
+// Whether the entry at a place has a flag.
+pub fn has(m: &Memory, k: usize, flag: Flag) -> bool
+    requires { k < entry_count }
+    ensures { result ≡ has flag m.now k }
 {
-    is_present(cell(m, k))
-}
-
-// Whether changes at a place are to be reported.
-pub fn subscribed(m: &[u8], k: usize) -> bool
-    requires { (length m.now ≡ memory_length) × (k < entry_count) }
-    ensures { result ≡ subscribed m.now k }
-{
-    is_subscribed(cell(m, k))
-}
-
-// Whether a change at a place is still to be reported.
-pub fn pending(m: &[u8], k: usize) -> bool
-    requires { (length m.now ≡ memory_length) × (k < entry_count) }
-    ensures { result ≡ pending m.now k }
-{
-    is_pending(cell(m, k))
+    marked(cell(m, k), flag)
 }
 
 // The value at a place, a part of its room. A length past the room, which sound memory never has, gives the room.
-pub fn body(m: &[u8], k: usize) -> &[u8]
-    requires { (length m.now ≡ memory_length) × (k < entry_count) }
+pub fn body(m: &Memory, k: usize) -> &[u8]
+    requires { k < entry_count }
     ensures { result.now ≡ body m.now k }
 {
-    let n = size(cell(m, k));
     let s = room(m, k);
-    if n < s.len() { &s[0..n] } else { s }
+    let n = size(cell(m, k)).min(s.len());
+    &s[..n]
 }
 
 // The value at a place as the wire has it in a profile.
-pub fn sent_body(m: &[u8], k: usize, profile: u8) -> &[u8]
-    requires { (length m.now ≡ memory_length) × (k < entry_count) }
+pub fn sent_body(m: &Memory, k: usize, profile: u8) -> &[u8]
+    requires { k < entry_count }
     ensures { result.now ≡ on_wire profile k (body m.now k) }
 {
     let v = body(m, k);
     let spare = table::spared(profile, k);
-    if spare < v.len() {
-        &v[spare..]
-    } else {
-        &v[v.len()..]
-    }
+    &v[spare.min(v.len())..]
 }
 
 // Whether a notification waits for its acknowledgement.
-pub fn waiting(m: &[u8]) -> bool
-    requires { length m.now ≡ memory_length }
+pub fn waiting(m: &Memory) -> bool
     ensures { result ≡ waiting m.now }
 {
     m[table::TIMER_AT] == table::WAITING
 }
 
 // The expiries since it was built.
-pub fn expiries(m: &[u8]) -> u8
-    requires { length m.now ≡ memory_length }
+pub fn expiries(m: &Memory) -> u8
     ensures { result ≡ expiries m.now }
 {
     m[table::EXPIRIES_AT]
 }
 
 // All flags of an entry as one octet, without the bits that sound memory never has.
-pub fn flags(m: &[u8], k: usize) -> u8
-    requires { (length m.now ≡ memory_length) × (k < entry_count) }
+pub fn flags(m: &Memory, k: usize) -> u8
+    requires { k < entry_count }
     ensures { (result ≡ octet m.now (flags_at k) % flag_limit) × (result < flag_limit) }
 {
     m[table::CELL_LENGTH * k + table::FLAGS_AT] % table::FLAG_LIMIT
 }
 
 // Whether no change is in flight.
-pub fn none_in_flight(m: &[u8]) -> bool
-    requires { length m.now ≡ memory_length }
+pub fn none_in_flight(m: &Memory) -> bool
     ensures { result ≡ none_in_flight m.now }
 {
     let mut none = true;
-    let mut k: usize = 0;
-    while k < table::ENTRY_COUNT {
-        none = none & (flags(m, k) < table::IN_FLIGHT);
-        k += 1;
+    for k in 0..table::ENTRY_COUNT {
+        none = none & !has(m, k, Flag::InFlight);
     }
     none
 }
 
 // Whether the four values of a block are there (RULES 5.12).
-pub fn four_present(m: &[u8]) -> bool
-    requires { length m.now ≡ memory_length }
+pub fn four_present(m: &Memory) -> bool
     ensures { result ≡ four_present m.now }
 {
-    present(m, table::ADMIN_BASE_TIME)
-        & (present(m, table::ADMIN_CONTROL_LIST_LENGTH)
-            & (present(m, table::ADMIN_CONTROL_LIST) & present(m, table::ADMIN_CYCLE_TIME)))
+    has(m, table::ADMIN_BASE_TIME, Flag::Present)
+        & (has(m, table::ADMIN_CONTROL_LIST_LENGTH, Flag::Present)
+            & (has(m, table::ADMIN_CONTROL_LIST, Flag::Present)
+                & has(m, table::ADMIN_CYCLE_TIME, Flag::Present)))
 }
 
 // ---- changes
 
-// A flag's bit where it is set.
+// A flag's bit where it is set: a number that is added, so that no test is made of two flags.
 fn bit(on: bool, n: u8) -> u8
     ensures { (result ≡ bit on n) × (result ≤ n) }
 {
@@ -168,8 +134,8 @@ fn bit(on: bool, n: u8) -> u8
 }
 
 // The flags of an entry with another presence, and pending besides where a change is due; the marks of the entry as they stand.
-pub fn flags_with(m: &[u8], k: usize, present: bool, due: bool) -> u8
-    requires { (length m.now ≡ memory_length) × (k < entry_count) }
+pub fn flags_with(m: &Memory, k: usize, present: bool, due: bool) -> u8
+    requires { k < entry_count }
     ensures { result ≡ flags present (subscribed m.now k) (pending m.now k || due) (in_flight m.now k) }
 {
     let f = flags(m, k);
@@ -178,7 +144,7 @@ pub fn flags_with(m: &[u8], k: usize, present: bool, due: bool) -> u8
     marks + bit(present, table::PRESENT) + bit(new, table::PENDING)
 }
 
-// A cell's six octets.
+// A cell's six octets. A slice, as it is lent of the memory: an array of it would be a test that cannot fail.
 fn write_cell(c: &mut [u8], name: usize, f: u8, n: usize)
     requires { (length c.old ≡ 6) × (name < 65536) × (n < 65536) }
     ensures { c.new ≡ be16 name ++ (f ∷ 0 ∷ be16 n) }
@@ -190,8 +156,8 @@ fn write_cell(c: &mut [u8], name: usize, f: u8, n: usize)
 }
 
 // Flags and length of the entry at a place.
-pub fn put_cell(m: &mut [u8], k: usize, f: u8, n: usize)
-    requires { (length m.old ≡ memory_length) × (k < entry_count) × (n < 65536) }
+pub fn put_cell(m: &mut Memory, k: usize, f: u8, n: usize)
+    requires { (k < entry_count) × (n < 65536) }
     ensures { m.new ≡ put_cell m.old k f n }
 {
     let at = table::CELL_LENGTH * k;
@@ -200,8 +166,8 @@ pub fn put_cell(m: &mut [u8], k: usize, f: u8, n: usize)
 }
 
 // A value in its own room: the room is lent on and filled, its tail zeroed.
-fn put_room(m: &mut [u8], k: usize, v: &[u8])
-    requires { (length m.old ≡ memory_length) × (length v.now ≤ (row_at k).most) }
+fn put_room(m: &mut Memory, k: usize, v: &[u8])
+    requires { length v.now ≤ (row_at k).most }
     ensures { m.new ≡ put_room m.old k v.now }
 {
     let row = table::row_at(k);
@@ -211,8 +177,8 @@ fn put_room(m: &mut [u8], k: usize, v: &[u8])
 }
 
 // An entry replaced: its flags, its length, its value.
-pub fn put(m: &mut [u8], k: usize, f: u8, v: &[u8])
-    requires { (length m.old ≡ memory_length) × (k < entry_count) × (length v.now ≤ (row_at k).most) }
+pub fn put(m: &mut Memory, k: usize, f: u8, v: &[u8])
+    requires { (k < entry_count) × (length v.now ≤ (row_at k).most) }
     ensures { m.new ≡ put m.old k f v.now }
 {
     put_cell(m, k, f, v.len());
@@ -220,8 +186,8 @@ pub fn put(m: &mut [u8], k: usize, f: u8, v: &[u8])
 }
 
 // A value made present, its marks as they were.
-pub fn store(m: &mut [u8], k: usize, v: &[u8])
-    requires { (length m.old ≡ memory_length) × (k < entry_count) × (length v.now ≤ (row_at k).most) }
+pub fn store(m: &mut Memory, k: usize, v: &[u8])
+    requires { (k < entry_count) × (length v.now ≤ (row_at k).most) }
     ensures { m.new ≡ store m.old k v.now }
 {
     let f = flags_with(m, k, true, false);
@@ -230,8 +196,8 @@ pub fn store(m: &mut [u8], k: usize, v: &[u8])
 
 // The block that the four values make, stored as what runs, from their rooms to its own. The rooms of the first three adjoin and the
 // first two are filled, so these stand in memory as they do in the block.
-pub fn store_block(m: &mut [u8])
-    requires { (length m.old ≡ memory_length) × (length (body m.old admin_base_time) ≡ 10) × (length (body m.old admin_control_list_length) ≡ 4) × (length (body m.old admin_cycle_time) ≡ 8) }
+pub fn store_block(m: &mut Memory)
+    requires { (length (body m.old admin_base_time) ≡ 10) × (length (body m.old admin_control_list_length) ≡ 4) × (length (body m.old admin_cycle_time) ≡ 8) }
     ensures { m.new ≡ store m.old commit (block m.old) }
 {
     let list = body(m, table::ADMIN_CONTROL_LIST).len();
@@ -244,16 +210,16 @@ pub fn store_block(m: &mut [u8])
 }
 
 // The flags of an entry replaced, and no other octet.
-pub fn put_flags(m: &mut [u8], k: usize, f: u8)
-    requires { (length m.old ≡ memory_length) × (k < entry_count) }
+pub fn put_flags(m: &mut Memory, k: usize, f: u8)
+    requires { k < entry_count }
     ensures { m.new ≡ splice m.old (flags_at k) (f ∷ []) }
 {
     m[table::CELL_LENGTH * k + table::FLAGS_AT] = f;
 }
 
 // Subscribed, the other flags as they stand.
-pub fn subscribe(m: &mut [u8], k: usize)
-    requires { (length m.old ≡ memory_length) × (k < entry_count) }
+pub fn subscribe(m: &mut Memory, k: usize)
+    requires { k < entry_count }
     ensures { m.new ≡ set_marks m.old k true (pending m.old k) (in_flight m.old k) }
 {
     let f = flags(m, k);
@@ -265,17 +231,16 @@ pub fn subscribe(m: &mut [u8], k: usize)
 }
 
 // No mark is left, presence as it stands.
-pub fn unsubscribe(m: &mut [u8], k: usize)
-    requires { (length m.old ≡ memory_length) × (k < entry_count) }
+pub fn unsubscribe(m: &mut Memory, k: usize)
+    requires { k < entry_count }
     ensures { m.new ≡ set_marks m.old k false false false }
 {
     let f = flags(m, k);
     put_flags(m, k, f % table::SUBSCRIBED);
 }
 
-// The timer's two octets.
-pub fn set_timer(m: &mut [u8], waiting: u8, expiries: u8)
-    requires { length m.old ≡ memory_length }
+// The timer's two octets. They are octets here, and no enum, since a caller of `set_timer` may give any.
+pub fn set_timer(m: &mut Memory, waiting: u8, expiries: u8)
     ensures { m.new ≡ set_timer m.old waiting expiries }
 {
     m[table::TIMER_AT] = waiting;
@@ -283,20 +248,16 @@ pub fn set_timer(m: &mut [u8], waiting: u8, expiries: u8)
 }
 
 // The 19 cells named, absent and unmarked.
-fn name_cells(m: &mut [u8])
-    requires { length m.old ≡ memory_length }
+fn name_cells(m: &mut Memory)
     ensures { m.new ≡ absent entry_count m.old }
 {
-    let mut k: usize = 0;
-    while k < table::ENTRY_COUNT {
+    for k in 0..table::ENTRY_COUNT {
         put_cell(m, k, 0, 0);
-        k += 1;
     }
 }
 
 // Fresh memory. Its two values are 0 and 64; of their octets only the last is not 0.
-pub fn make_fresh(m: &mut [u8])
-    requires { length m.old ≡ memory_length }
+pub fn make_fresh(m: &mut Memory)
     ensures { m.new ≡ fresh }
 {
     octets::clear_from(m, 0);

@@ -11,71 +11,67 @@ pub const OLD_LENGTH: usize = table::MEMORY_LENGTH;
 
 pub const FORM_B_LENGTH: usize = table::FORM_LENGTH;
 
-// What a move answers: done, with the length of what it wrote; or why nothing was done. The memory is not sound in the form
-// that is to be read; the room is not exactly as long as the other form; the profile is not that of the old form; a change is in
-// flight, which the old form cannot say.
+// Why a move did nothing. The memory is not sound in the form that is to be read; the room is not exactly as long as the
+// other form; the profile is not that of the old form; a change is in flight, which the old form cannot say.
 #[derive(Clone, Copy)]
-pub enum Moved {
-    Done(usize),
+pub enum Refusal {
     MemoryUnsound,
     RoomNotExact,
     NotRelease18,
     InFlight,
 }
 
-// The number of an answer.
-pub fn number(moved: Moved) -> usize
+// The number of a move's answer: 0 where it was done.
+pub fn number(moved: Result<usize, Refusal>) -> usize
     ensures { result ≡ number_of moved }
 {
     match moved {
-        Moved::Done(_) => 0,
-        Moved::MemoryUnsound => 1,
-        Moved::RoomNotExact => 16,
-        Moved::NotRelease18 => 19,
-        Moved::InFlight => 17,
+        Ok(_) => 0,
+        Err(Refusal::MemoryUnsound) => 1,
+        Err(Refusal::RoomNotExact) => 16,
+        Err(Refusal::NotRelease18) => 19,
+        Err(Refusal::InFlight) => 17,
     }
 }
 
 // The length of what a move wrote; 0 where it wrote nothing.
-pub fn written(moved: Moved) -> usize
+pub fn written(moved: Result<usize, Refusal>) -> usize
     ensures { result ≡ length_of moved }
 {
-    let Moved::Done(n) = moved else {
-        return 0;
-    };
-    n
+    moved.unwrap_or(0)
 }
 
 // From the old form to form B, of the same profile. A port that waits still waits, with nothing in flight.
-pub fn forward(memory: &[u8], room: &mut [u8]) -> Moved
+pub fn forward(memory: &[u8], room: &mut [u8]) -> Result<usize, Refusal>
     ensures { Gives (forward memory.now room.old) result memory.now room.new }
 {
     if !soundness::sound_old(memory) {
-        return Moved::MemoryUnsound;
+        return Err(Refusal::MemoryUnsound);
     }
     if room.len() != FORM_B_LENGTH {
-        return Moved::RoomNotExact;
+        return Err(Refusal::RoomNotExact);
     }
     room[table::PROFILE_AT] = wire::RELEASE_18;
-    Moved::Done(octets::append(room, table::BEHIND_AT, memory))
+    Ok(octets::append(room, table::BEHIND_AT, memory))
 }
 
-// From form B to the old form.
-pub fn back(memory: &[u8], room: &mut [u8]) -> Moved
+// From form B to the old form. Behind the first octet of sound memory stand as many as memory has, so `unwrap` is proved, and
+// tests nothing.
+pub fn back(memory: &[u8], room: &mut [u8]) -> Result<usize, Refusal>
     ensures { Gives (back memory.now room.old) result memory.now room.new }
 {
     if !soundness::sound_form_b(memory) {
-        return Moved::MemoryUnsound;
+        return Err(Refusal::MemoryUnsound);
     }
     if room.len() != OLD_LENGTH {
-        return Moved::RoomNotExact;
+        return Err(Refusal::RoomNotExact);
     }
     if memory[table::PROFILE_AT] != wire::RELEASE_18 {
-        return Moved::NotRelease18;
+        return Err(Refusal::NotRelease18);
     }
-    let m = &memory[table::BEHIND_AT..];
+    let m = memory[table::BEHIND_AT..].as_array().unwrap();
     if !memory::none_in_flight(m) {
-        return Moved::InFlight;
+        return Err(Refusal::InFlight);
     }
-    Moved::Done(octets::append(room, 0, m))
+    Ok(octets::append(room, 0, m))
 }

@@ -3,9 +3,9 @@ use Prim.Native.Nat.{ℕ, zero, suc, ◌+◌, ◌*◌, ◌-◌, ◌≤◌, ◌<�
 use native.Mathlib.Nat.{add-zero}
 use native.Mathlib.Numerals.{add-one}
 use native.Mathlib.Omega.{arith}
-use mathlib.Core.Path.{◌≡◌, refl, sym, ap, ◌∙◌}
+use mathlib.Core.Path.{◌≡◌, refl, sym, ap, ap₂, ◌∙◌}
 use mathlib.Core.Logic.{◌≢◌}
-use mathlib.Core.Bool.{Bool, true, false, cond}
+use mathlib.Core.Bool.{Bool, true, false, not, cond, ◌&&◌}
 use mathlib.Core.List.{List, [], ◌∷◌, ◌++◌, append-nil}
 use lib.ListN.{length, length-append}
 use Rattle.meaning.specs.Octets.{be16, flat, nonempty}
@@ -54,29 +54,42 @@ unfolding reports part_of gathered flat
 part-start p m true = refl
 part-start p m false = refl
 
--- of one entry there is at most one record, of one kind
+-- of one entry there is at most one record: a value, or the cause of an absent one
 module _ (p : ℕ) (m : List ℕ) (k : ℕ) where
-  pub part_none : (v : Bool) → pending m k ≡ false → part_of v (due_at p m k) ≡ []
-  unfolding due_at part_of gathered flat
-  part_none true q = rw q
-  part_none false q = rw q
+  abbrev due_if : Bool → Bool → List Answer
+  due_if q b = cond q (cond b (value (row_at k).name (body m k)) (read_error (row_at k).name (cause_absent p)) ∷ []) []
 
-  module _ (v : Bool) (q : pending m k ≡ true) where
-    pub part-value : {n : ℕ} {b : List ℕ} → v ≡ true → present m k ≡ true → n ≡ (row_at k).name → b ≡ body m k → part_of v (due_at p m k) ≡ held_octets (record { name = n; value = b })
-    unfolding due_at report part_of gathered record_of flat
-    part-value t e f g = rw (t, f, g, q, e, append-nil)
+  values_part : part_of true (due_at p m k) ≡ cond (pending m k && present m k) (held_octets (record { name = (row_at k).name; value = body m k })) []
+  unfolding due_at report part_of gathered record_of flat
+  values_part = go (pending m k) (present m k)
+    where
+      go : (q b : Bool) → flat held_octets (gathered (due_if q b)).values ≡ cond (q && b) (held_octets (record { name = (row_at k).name; value = body m k })) []
+      go false b = refl
+      go true false = refl
+      go true true = append-nil _
 
-    pub part-absent : {n c : ℕ} → v ≡ false → present m k ≡ false → n ≡ (row_at k).name → c ≡ cause_absent p → part_of v (due_at p m k) ≡ failed_octets (record { name = n; cause = c })
-    unfolding due_at report part_of gathered record_of flat
-    part-absent t e f g = rw (t, f, g, q, e, append-nil)
+  absent_part : part_of false (due_at p m k) ≡ cond (pending m k && not (present m k)) (failed_octets (record { name = (row_at k).name; cause = cause_absent p })) []
+  unfolding due_at report part_of gathered record_of flat
+  absent_part = go (pending m k) (present m k)
+    where
+      go : (q b : Bool) → flat failed_octets (gathered (due_if q b)).read_errors ≡ cond (q && not b) (failed_octets (record { name = (row_at k).name; cause = cause_absent p })) []
+      go false b = refl
+      go true true = refl
+      go true false = append-nil _
 
-    pub part_no_value : v ≡ true → present m k ≡ false → part_of v (due_at p m k) ≡ []
-    unfolding due_at report part_of gathered record_of flat
-    part_no_value t e = rw (t, q, e)
+  pub value_due : {n : ℕ} {b : List ℕ} → (pending m k && present m k) ≡ true → n ≡ (row_at k).name → b ≡ body m k
+      → part_of true (due_at p m k) ≡ held_octets (record { name = n; value = b })
+  value_due h e f = values_part ∙ rw (h, e, f) refl
 
-    pub part_not_absent : v ≡ false → present m k ≡ true → part_of v (due_at p m k) ≡ []
-    unfolding due_at report part_of gathered record_of flat
-    part_not_absent t e = rw (t, q, e)
+  pub no_value_due : (pending m k && present m k) ≡ false → part_of true (due_at p m k) ≡ []
+  no_value_due h = values_part ∙ rw h refl
+
+  pub failed_due : {n c : ℕ} → (pending m k && not (present m k)) ≡ true → n ≡ (row_at k).name → c ≡ cause_absent p
+      → part_of false (due_at p m k) ≡ failed_octets (record { name = n; cause = c })
+  failed_due h e f = absent_part ∙ rw (h, e, f) refl
+
+  pub none_failed_due : (pending m k && not (present m k)) ≡ false → part_of false (due_at p m k) ≡ []
+  none_failed_due h = absent_part ∙ rw h refl
 
 -- the records of a kind among the first entries are no longer than all of them
 pub part-within : (p : ℕ) (v : Bool) (m : List ℕ) (k : ℕ) → k < entry_count
@@ -97,6 +110,16 @@ kind_next p v m k out at h f a b =
       b.0 ∙ omega (arith, a.0, length-append x y),
       then out x y at _ (omega (arith, part-within p v m k h, f)) a.0 a.1 b.1,
     )
+
+-- in every profile the same values are due
+values-alike : (p q : ℕ) (m : List ℕ) (k : ℕ) → part_of true (due_at p m k) ≡ part_of true (due_at q m k)
+values-alike p q m k = values_part p m k ∙ sym (values_part q m k)
+
+pub same_values : (p q : ℕ) (m : List ℕ) (k : ℕ) → part_of true (reports p m k) ≡ part_of true (reports q m k)
+same_values p q m zero = part-start p m true ∙ sym (part-start q m true)
+same_values p q m (suc k) =
+    let next : (r : ℕ) → part_of true (reports r m (suc k)) ≡ part_of true (reports r m k) ++ part_of true (due_at r m k) = λ r. rw (add-one k) at (part-next r true m k) in
+    next p ∙ ap₂ ◌++◌ (same_values p q m k) (values-alike p q m k) ∙ sym (next q)
 
 -- ---- counts
 

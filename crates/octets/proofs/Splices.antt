@@ -7,7 +7,7 @@ use native.Mathlib.Numerals.{add-one}
 use mathlib.Core.Path.{◌≡◌, refl, sym, ap, ◌∙◌}
 use mathlib.Core.List.{List, [], ◌∷◌, ◌++◌, append_assoc, append-nil}
 use lib.ListN.{length, take, drop, set, length-append, length-drop, take-append-drop, drop_of_length-le}
-use lib.Seq.{take_at, take-append-le, drop-append-le, drop-append-add, drop-drop, length-take-le, take_all, drop-cons, sets-eq}
+use lib.Seq.{paste, take_at, take-append-le, drop-append-le, drop-append-add, drop-drop, length-take-le, take_all, drop-cons, sets-eq}
 use borrow.Rule.Slice.PartMut.{put_mid, Post-is}
 use Rattle.meaning.specs.Octets.{octet, part, splice}
 use Rattle.meaning.proofs.Lists.{length_part, octet-part, splice-length, splice_before}
@@ -89,7 +89,17 @@ splice_comm s v w i j h k =
     let b : splice s j w ≡ t ++ (w ++ drop (length w) d) = ap (λ (l : List ℕ). splice l j w) (sym c) ∙ splice-right t d w j f in
     rw (a, b) (splice-right (splice t i v) d w j (splice-length t i v n ∙ f) ∙ sym (splice_left t (w ++ drop (length w) d) v i n))
 
--- ---- a part written once more, behind itself
+-- ---- a part written once more
+
+-- as the library copies it
+pub pasted : (s : List ℕ) (from n at : ℕ) → from + n ≤ length s → paste s at (drop from s) (from + n - from) ≡ splice s at (part s from n)
+unfolding part splice
+pasted s from n at h =
+    let e : from + n - from ≡ n = omega arith in
+    let l : length (take n (drop from s)) ≡ n = length_part s from n h in
+    rw (e, l) (append_assoc (take at s) (take n (drop from s)) (drop (at + n) s))
+
+-- the same octet by octet, which no code does any more: a law of what `copy_within` comes to, that a note of docs/ names
 
 -- a part by its first octet
 part-cons : (s : List ℕ) (i n : ℕ) → i < length s → part s i (n + 1) ≡ octet s i ∷ part s (i + 1) n

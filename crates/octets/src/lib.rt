@@ -6,19 +6,12 @@ ghost use Rattle.std.specs.Prelude.{◌+◌, ◌-◌, ◌≤◌, ◌<◌, ◌≡
 ghost use Rattle.meaning.specs.Octets.{at16, at32, be16, part, splice, zeros, blank};
 ghost use Rattle.octets.specs.Writing.{Wrote};
 
-// An octet as a number.
-pub fn wide(x: u8) -> usize
-    ensures { (result ≡ x) × (result < 256) }
-{
-    x as usize
-}
-
 // The number that two octets at a place spell.
 pub fn get16(s: &[u8], at: usize) -> usize
     requires { at + 2 ≤ length s.now }
     ensures { (result ≡ at16 s.now at) × (result < 65536) }
 {
-    wide(s[at]) * 256 + wide(s[at + 1])
+    usize::from(u16::from_be_bytes([s[at], s[at + 1]]))
 }
 
 // The number that four octets at a place spell.
@@ -26,9 +19,7 @@ pub fn get32(s: &[u8], at: usize) -> u64
     requires { at + 4 ≤ length s.now }
     ensures { (result ≡ at32 s.now at) × (result < 4294967296) }
 {
-    let high = get16(s, at);
-    let low = get16(s, at + 2);
-    (high * 65536 + low) as u64
+    u64::from(u32::from_be_bytes([s[at], s[at + 1], s[at + 2], s[at + 3]]))
 }
 
 // A number written as two octets at a place.
@@ -36,8 +27,9 @@ pub fn put16(s: &mut [u8], at: usize, v: usize)
     requires { (at + 2 ≤ length s.old) × (v < 65536) }
     ensures { s.new ≡ splice s.old at (be16 v) }
 {
-    s[at] = (v / 256 % 256) as u8;
-    s[at + 1] = (v % 256) as u8;
+    let [high, low] = (v as u16).to_be_bytes();
+    s[at] = high;
+    s[at + 1] = low;
 }
 
 // Zeros from a place to the end.
@@ -45,11 +37,7 @@ pub fn clear_from(room: &mut [u8], at: usize)
     requires { at ≤ length room.old }
     ensures { room.new ≡ take at room.old ++ zeros (length room.old - at) }
 {
-    let mut i = at;
-    while i < room.len() {
-        room[i] = 0;
-        i += 1;
-    }
+    room[at..].fill(0);
 }
 
 // A room filled with a value, its tail zeroed.
@@ -83,17 +71,12 @@ pub fn append(out: &mut [u8], at: usize, src: &[u8]) -> usize
     end
 }
 
-// Octets written once more at a place behind them; the place after them. From the last to the first, so that the compiler sees that it
-// may move them all at once.
+// Octets copied to a place behind them; the place after them.
 pub fn copy_within(s: &mut [u8], from: usize, n: usize, at: usize) -> usize
     requires { (from + n ≤ at) × (at + n ≤ length s.old) }
     ensures { Wrote s.old at (part s.old from n) result s.new }
 {
-    let mut i = n;
-    while 0 < i {
-        i -= 1;
-        s[at + i] = s[from + i];
-    }
+    s.copy_within(from..from + n, at);
     at + n
 }
 
@@ -101,11 +84,5 @@ pub fn copy_within(s: &mut [u8], from: usize, n: usize, at: usize) -> usize
 pub fn is_blank(s: &[u8]) -> bool
     ensures { result ≡ blank s.now }
 {
-    let mut any: u8 = 0;
-    let mut i = 0;
-    while i < s.len() {
-        any = any | s[i];
-        i += 1;
-    }
-    any == 0
+    s.iter().fold(0, |any, x| any | *x) == 0
 }

@@ -17,8 +17,8 @@ use Rattle.meaning.proofs.Lists.{length_part}
 use Rattle.meaning.proofs.Profiles.{low_code, no_code, shape_has, shape_none}
 use Rattle.operation.specs.declared.Op.{Op}
 use Rattle.operation.specs.declared.Op.TheVariants.{Capabilities, Read, Set, Subscribe, Unsubscribe, SelectiveRead, SelectiveSubscribe, SelectiveUnsubscribe, DeleteEntry}
-use Rattle.operation.specs.declared.Handed.TheVariants.{Operation, Malformed, End}
-use Rattle.operation.specs.Handing.{op_at, NoValue, found_at, handed_from, handed_at}
+use Rattle.operation.specs.declared.NamedValue.{NamedValue}
+use Rattle.operation.specs.Handing.{op_at, value_at, NoValue, handed, refused, ended, found_at, handed_from, handed_at}
 
 -- with fewer than two octets after its code, every operation but get capabilities is cut short
 abbrev Cut : Shape → Type 0
@@ -131,7 +131,7 @@ module _ (s : List ℕ) (at : ℕ) (h : at < length s) where
   rest_part k m n e = rw (rest_drop k m e)
 
 module _ (p : ℕ) (s : List ℕ) (at : ℕ) where
-  pub past : length s ≤ at → End ≡ handed_at p s at
+  pub past : length s ≤ at → ended ≡ handed_at p s at
   unfolding handed_at handed_from
   past h = rw (drop_of_length-le s h)
 
@@ -148,17 +148,17 @@ module _ (p : ℕ) (s : List ℕ) (at : ℕ) where
 
     -- an operation of w octets after its code, which are there
     whole_found : (c w : ℕ) (f : operation.Op) (o : Op) (next : ℕ) → get_or s at 0 ≡ c → has_code p c ≡ true → shaped (shape_of c) behind ≡ whole w behind f
-        → at + 1 + w ≤ length s → next ≡ at + 1 + w → o ≡ op_at at f → Operation o next ≡ handed_at p s at
+        → at + 1 + w ≤ length s → next ≡ at + 1 + w → o ≡ op_at at f → handed o next ≡ handed_at p s at
     unfolding found_at
     whole_found c w f o next e has sh k n eo =
         rw (known_is c e has, sh, whole_there w behind f (omega (arith, rest_length s at h)))
-        (ap₂ Operation eo (omega (arith, n, rest_length s at h, length-drop w behind)))
+        (ap₂ handed eo (omega (arith, n, rest_length s at h, length-drop w behind)))
 
-    pub capabilities_found : get_or s at 0 ≡ 1 → Operation Capabilities (at + 1) ≡ handed_at p s at
+    pub capabilities_found : get_or s at 0 ≡ 1 → handed Capabilities (at + 1) ≡ handed_at p s at
     unfolding found_at op_at shape_of shaped
-    capabilities_found e = rw (known_is 1 e (low_code p 1 (omega arith))) (ap (Operation Capabilities) (omega (arith, rest_length s at h)))
+    capabilities_found e = rw (known_is 1 e (low_code p 1 (omega arith))) (ap (handed Capabilities) (omega (arith, rest_length s at h)))
 
-    pub name_cut : (get_or s at 0 ≡ 1 → ⊥) → length s - at < 3 → Malformed (in_message at) ≡ handed_at p s at
+    pub name_cut : (get_or s at 0 ≡ 1 → ⊥) → length s - at < 3 → refused (in_message at) ≡ handed_at p s at
     unfolding found_at
     name_cut e k = rw (found_is _ refl, shape_cut p _ e behind (omega (arith, rest_length s at h)))
 
@@ -168,27 +168,27 @@ module _ (p : ℕ) (s : List ℕ) (at : ℕ) where
       unfolding shaped
       named_is f = rw (rest_at16 s at h 0 (at + 1) (omega arith), ← en)
 
-      pub read_found : get_or s at 0 ≡ 2 → o ≡ Read n → Operation o (at + 3) ≡ handed_at p s at
+      pub read_found : get_or s at 0 ≡ 2 → o ≡ Read n → handed o (at + 3) ≡ handed_at p s at
       unfolding op_at shape_of
       read_found e eo = whole_found 2 2 (read n) o (at + 3) e (low_code p 2 (omega arith)) (named_is read) (omega arith) (omega arith) eo
 
-      pub subscribe_found : get_or s at 0 ≡ 4 → o ≡ Subscribe n → Operation o (at + 3) ≡ handed_at p s at
+      pub subscribe_found : get_or s at 0 ≡ 4 → o ≡ Subscribe n → handed o (at + 3) ≡ handed_at p s at
       unfolding op_at shape_of
       subscribe_found e eo = whole_found 4 2 (subscribe n) o (at + 3) e (low_code p 4 (omega arith)) (named_is subscribe) (omega arith) (omega arith) eo
 
-      pub unsubscribe_found : get_or s at 0 ≡ 5 → o ≡ Unsubscribe n → Operation o (at + 3) ≡ handed_at p s at
+      pub unsubscribe_found : get_or s at 0 ≡ 5 → o ≡ Unsubscribe n → handed o (at + 3) ≡ handed_at p s at
       unfolding op_at shape_of
       unsubscribe_found e eo = whole_found 5 2 (unsubscribe n) o (at + 3) e (low_code p 5 (omega arith)) (named_is unsubscribe) (omega arith) (omega arith) eo
 
     -- an operation with a name and a value, of which the length or the value is cut short
-    value_cut : (NoValue (get_or s at 0) → ⊥) → length s - at < 5 + at16 s (at + 3) → Malformed (in_message at) ≡ handed_at p s at
+    value_cut : (NoValue (get_or s at 0) → ⊥) → length s - at < 5 + at16 s (at + 3) → refused (in_message at) ≡ handed_at p s at
     unfolding found_at
     value_cut n k = rw (found_is _ refl, shape-short p _ n behind (omega (arith, rest_length s at h, rest_at16 s at h 2 (at + 3) (omega arith))))
 
-    pub length-short : (NoValue (get_or s at 0) → ⊥) → length s - at < 5 → Malformed (in_message at) ≡ handed_at p s at
+    pub length-short : (NoValue (get_or s at 0) → ⊥) → length s - at < 5 → refused (in_message at) ≡ handed_at p s at
     length-short n k = value_cut n (omega arith)
 
-    pub value-short : (size : ℕ) → (NoValue (get_or s at 0) → ⊥) → size ≡ at16 s (at + 3) → length s - at < 5 + size → Malformed (in_message at) ≡ handed_at p s at
+    pub value-short : (size : ℕ) → (NoValue (get_or s at 0) → ⊥) → size ≡ at16 s (at + 3) → length s - at < 5 + size → refused (in_message at) ≡ handed_at p s at
     value-short size n z k = value_cut n (omega arith)
 
     -- one that is there
@@ -199,40 +199,40 @@ module _ (p : ℕ) (s : List ℕ) (at : ℕ) where
       valued_is f = rw (rest_at16 s at h 0 (at + 1) (omega arith), rest_at16 s at h 2 (at + 3) (omega arith), ← en, ← z)
 
       -- where it is found by its code, and tells the value by its place
-      valued_found : (c : ℕ) (f : ℕ → List ℕ → operation.Op) (g : ℕ → ℕ → Op) → get_or s at 0 ≡ c → shape_of c ≡ valued f
-          → op_at at (f n (part behind 4 size)) ≡ g (at + 5) (length (part behind 4 size)) → o ≡ g from size → Operation o (from + size) ≡ handed_at p s at
+      valued_found : (c : ℕ) (f : ℕ → List ℕ → operation.Op) (g : NamedValue → Op) → get_or s at 0 ≡ c → shape_of c ≡ valued f
+          → op_at at (f n (part behind 4 size)) ≡ g (value_at at n (part behind 4 size)) → o ≡ g (record { name = n; from = from; size = size }) → handed o (from + size) ≡ handed_at p s at
       valued_found c f g e sh there eo =
           let long : length (part behind 4 size) ≡ size = length_part behind 4 size (omega (arith, rest_length s at h)) in
           whole_found c (4 + size) (f n (part behind 4 size)) o (from + size) e (ap (has_code p) (sym e) ∙ has)
           (ap (λ (x : Shape). shaped x behind) sh ∙ valued_is f) (omega arith) (omega arith)
-          (eo ∙ ap₂ g ef (sym long) ∙ sym there)
+          (eo ∙ ap₂ (λ (i k : ℕ). g (record { name = n; from = i; size = k })) ef (sym long) ∙ sym there)
 
-      pub set_found : get_or s at 0 ≡ 3 → o ≡ Set n from size → Operation o (from + size) ≡ handed_at p s at
+      pub set_found : get_or s at 0 ≡ 3 → o ≡ Set (record { name = n; from = from; size = size }) → handed o (from + size) ≡ handed_at p s at
       unfolding op_at shape_of
-      set_found e eo = valued_found 3 set (Set n) e refl refl eo
+      set_found e eo = valued_found 3 set Set e refl refl eo
 
-      pub selective_read_found : get_or s at 0 ≡ 6 → o ≡ SelectiveRead n from size → Operation o (from + size) ≡ handed_at p s at
+      pub selective_read_found : get_or s at 0 ≡ 6 → o ≡ SelectiveRead (record { name = n; from = from; size = size }) → handed o (from + size) ≡ handed_at p s at
       unfolding op_at shape_of
-      selective_read_found e eo = valued_found 6 selective_read (SelectiveRead n) e refl refl eo
+      selective_read_found e eo = valued_found 6 selective_read SelectiveRead e refl refl eo
 
-      pub selective_subscribe_found : get_or s at 0 ≡ 7 → o ≡ SelectiveSubscribe n from size → Operation o (from + size) ≡ handed_at p s at
+      pub selective_subscribe_found : get_or s at 0 ≡ 7 → o ≡ SelectiveSubscribe (record { name = n; from = from; size = size }) → handed o (from + size) ≡ handed_at p s at
       unfolding op_at shape_of
-      selective_subscribe_found e eo = valued_found 7 selective_subscribe (SelectiveSubscribe n) e refl refl eo
+      selective_subscribe_found e eo = valued_found 7 selective_subscribe SelectiveSubscribe e refl refl eo
 
-      pub selective_unsubscribe_found : get_or s at 0 ≡ 8 → o ≡ SelectiveUnsubscribe n from size → Operation o (from + size) ≡ handed_at p s at
+      pub selective_unsubscribe_found : get_or s at 0 ≡ 8 → o ≡ SelectiveUnsubscribe (record { name = n; from = from; size = size }) → handed o (from + size) ≡ handed_at p s at
       unfolding op_at shape_of
-      selective_unsubscribe_found e eo = valued_found 8 selective_unsubscribe (SelectiveUnsubscribe n) e refl refl eo
+      selective_unsubscribe_found e eo = valued_found 8 selective_unsubscribe SelectiveUnsubscribe e refl refl eo
 
-      pub delete_entry_found : get_or s at 0 ≡ 9 → o ≡ DeleteEntry n from size → Operation o (from + size) ≡ handed_at p s at
+      pub delete_entry_found : get_or s at 0 ≡ 9 → o ≡ DeleteEntry (record { name = n; from = from; size = size }) → handed o (from + size) ≡ handed_at p s at
       unfolding op_at shape_of
-      delete_entry_found e eo = valued_found 9 delete_entry (DeleteEntry n) e refl refl eo
+      delete_entry_found e eo = valued_found 9 delete_entry DeleteEntry e refl refl eo
 
     -- a code that the profile has not, and one that none has
-    pub missing_found : has_code p (get_or s at 0) ≡ false → Malformed (in_message at) ≡ handed_at p s at
+    pub missing_found : has_code p (get_or s at 0) ≡ false → refused (in_message at) ≡ handed_at p s at
     unfolding found_at shaped
     missing_found e = rw (found_is _ refl, code_missing p _ e)
 
     pub other_found : has_code p (get_or s at 0) ≡ true → (NoValue (get_or s at 0) → ⊥) → (get_or s at 0 ≡ 3 → ⊥) → (get_or s at 0 ≡ 6 → ⊥) → (get_or s at 0 ≡ 7 → ⊥)
-        → (get_or s at 0 ≡ 8 → ⊥) → (get_or s at 0 ≡ 9 → ⊥) → Malformed (in_message at) ≡ handed_at p s at
+        → (get_or s at 0 ≡ 8 → ⊥) → (get_or s at 0 ≡ 9 → ⊥) → refused (in_message at) ≡ handed_at p s at
     unfolding found_at shaped
     other_found has n a b d e f = rw (known_is _ refl has, other_code _ n a b d e f)

@@ -11,8 +11,7 @@ use Rattle.meaning.specs.Octets.{at16, part}
 use Rattle.meaning.specs.Operation.{capabilities, read, set, subscribe, unsubscribe, selective_read, selective_subscribe, selective_unsubscribe, delete_entry, Shape, alone, named, valued, malformed, shape_of, shape, Next, whole, shaped}
 use Rattle.meaning.specs.Operation as operation
 use Rattle.meaning.proofs.Lists.{length_part}
-use Rattle.operation.specs.declared.Handed.{Handed}
-use Rattle.operation.specs.Handing.{op_of, Inside, op_at, found_at, handed_from, handed_at}
+use Rattle.operation.specs.Handing.{op_of, Inside, op_at, Handed, found_at, handed_from, handed_at}
 use Rattle.operation.proofs.Found.{whole_there, whole_cut, either, in_profile, rest, rest_length, rest_drop, rest_part}
 use Rattle.operation.proofs.Turns.{found, first, handing, Reached, HandsOut}
 

@@ -3,4 +3,5 @@
 pub mod Turns
 pub mod Found
 pub mod Hands
+pub mod Reading
 pub mod ToTheEnd

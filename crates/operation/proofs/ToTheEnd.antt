@@ -5,21 +5,20 @@ use mathlib.Core.Path.{◌≡◌, sym, ap, ◌∙◌}
 use mathlib.Core.Bool.{false≢true}
 use mathlib.Core.List.{List, []}
 use mathlib.Core.Option.{Option, none, some}
+use Rattle.std.specs.Prelude.{Some, None, Ok, Err}
 use lib.ListN.{length, drop, get_or, length-drop}
 use Rattle.meaning.specs.Operation.{more, parse, is_some, broken, in_message, break_of}
 use Rattle.meaning.specs.Operation as operation
 use Rattle.meaning.proofs.Breaks.{more_none}
-use Rattle.operation.specs.declared.Handed.{Handed}
-use Rattle.operation.specs.declared.Handed.TheVariants.{Operation, Malformed, End}
-use Rattle.operation.specs.Handing.{op_of, handed_at}
+use Rattle.operation.specs.Handing.{op_of, Handed, handed_at}
 use Rattle.operation.proofs.Turns.{HandsOut, turn, turn-malformed, turn_end, turn-broken, turn_breaks}
 use Rattle.operation.proofs.Hands.{hands_out}
 
 -- by one answer: an operation and those that are handed out from the place after it, no more at the end, and none where it is malformed
 unfoldable pub onward : List ℕ → Handed → (ℕ → Option (List operation.Op)) → Option (List operation.Op)
-onward s (Operation o next) rest = more (op_of s o) (rest next)
-onward s (Malformed q) rest = none
-onward s End rest = some []
+onward s (Ok (Some n)) rest = more (op_of s n.op) (rest n.behind)
+onward s (Ok None) rest = some []
+onward s (Err e) rest = none
 
 -- the operations of the list s, handed out one after another from a place by n calls, where f says what is answered at each place;
 -- none where the n calls do not reach the end
@@ -29,9 +28,9 @@ handed_out s f (suc n) at = onward s (f at) (handed_out s f n)
 
 -- the position with which a list is refused that is handed out so; 0 where it is not
 unfoldable pub refused_on : Handed → (ℕ → ℕ) → ℕ
-refused_on (Operation o next) rest = rest next
-refused_on (Malformed q) rest = q
-refused_on End rest = 0
+refused_on (Ok (Some n)) rest = rest n.behind
+refused_on (Ok None) rest = 0
+refused_on (Err e) rest = e.position
 
 unfoldable pub refused_at : (ℕ → Handed) → ℕ → ℕ → ℕ
 refused_at f zero at = 0
@@ -42,9 +41,9 @@ module _ (p : ℕ) (s : List ℕ) where
   onward_parses : (at : ℕ) (r : Handed) (rest : ℕ → Option (List operation.Op)) → HandsOut p s at r
       → ((next : ℕ) → at < next → next ≤ length s → rest next ≡ parse p (drop next s)) → onward s r rest ≡ parse p (drop at s)
   unfolding onward
-  onward_parses at (Operation o next) rest h k = ap (more (op_of s o)) (k next h.1.0 h.1.1) ∙ sym (turn p s at next o h.0)
-  onward_parses at (Malformed q) rest h k = sym (turn-malformed p s at q h.0)
-  onward_parses at End rest h k = sym (turn_end p s at h.0)
+  onward_parses at (Ok (Some n)) rest h k = ap (more (op_of s n.op)) (k n.behind h.1.0 h.1.1) ∙ sym (turn p s at n.behind n.op h.0)
+  onward_parses at (Ok None) rest h k = sym (turn_end p s at h.0)
+  onward_parses at (Err e) rest h k = sym (turn-malformed p s at e.position h.0)
 
   -- one answer, with the position of what follows it known
   abbrev break_from : ℕ → ℕ
@@ -53,10 +52,10 @@ module _ (p : ℕ) (s : List ℕ) where
   refused_breaks : (at : ℕ) (r : Handed) (rest : ℕ → ℕ) → at ≤ length s → HandsOut p s at r → parse p (drop at s) ≡ none
       → ((next : ℕ) → at < next → next ≤ length s → parse p (drop next s) ≡ none → rest next ≡ break_from next) → refused_on r rest ≡ break_from at
   unfolding refused_on
-  refused_breaks at (Operation o next) rest l h e k =
-      k next h.1.0 h.1.1 (more_none (op_of s o) _ (sym (turn p s at next o h.0) ∙ e)) ∙ sym (ap (λ (u : List ℕ). in_message (length s - length u)) (turn-broken p s at next o h.0))
-  refused_breaks at (Malformed q) rest l h e k = omega (arith, h.1, ap length (turn_breaks p s at q h.0), length-drop at s, l)
-  refused_breaks at End rest l h e k = absurd (false≢true (ap is_some (sym e ∙ turn_end p s at h.0)))
+  refused_breaks at (Ok (Some n)) rest l h e k =
+      k n.behind h.1.0 h.1.1 (more_none (op_of s n.op) _ (sym (turn p s at n.behind n.op h.0) ∙ e)) ∙ sym (ap (λ (u : List ℕ). in_message (length s - length u)) (turn-broken p s at n.behind n.op h.0))
+  refused_breaks at (Err f) rest l h e k = omega (arith, h.1, ap length (turn_breaks p s at f.position h.0), length-drop at s, l)
+  refused_breaks at (Ok None) rest l h e k = absurd (false≢true (ap is_some (sym e ∙ turn_end p s at h.0)))
 
   module _ (octets : (i : ℕ) → get_or s i 0 < 256) (f : ℕ → Handed) (each : (at : ℕ) → at ≤ length s → f at ≡ handed_at p s at) where
     from-position : (n at : ℕ) → at ≤ length s → length s < at + n → handed_out s f n at ≡ parse p (drop at s)

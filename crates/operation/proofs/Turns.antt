@@ -5,6 +5,7 @@ use mathlib.Core.Path.{◌≡◌, refl, sym, ap, ◌∙◌}
 use mathlib.Core.Bool.{Bool, true, false, cond, false≢true}
 use mathlib.Core.List.{List, [], ◌∷◌}
 use mathlib.Core.Option.{Option, none, some}
+use Rattle.std.specs.Prelude.{Some, None, Result, Ok, Err, is_ok, ⊤}
 use lib.ListN.{length, drop, length-drop}
 use Rattle.meaning.specs.Operation.{Next, bad, got, shape, shaped, follow, more, parse, is_some, or_none, broken, in_message, break_of}
 use Rattle.meaning.specs.Operation as operation
@@ -14,43 +15,44 @@ use Rattle.meaning.proofs.Encode.{first_of, parse-step, parse-nil}
 use Rattle.meaning.proofs.Breaks.{broken-got, broken-bad}
 use Rattle.operation.specs.declared.Op.{Op}
 use Rattle.operation.specs.declared.Op.TheVariants.{Capabilities, Read, Set, Subscribe, Unsubscribe, SelectiveRead, SelectiveSubscribe, SelectiveUnsubscribe, DeleteEntry}
-use Rattle.operation.specs.declared.Handed.{Handed}
-use Rattle.operation.specs.declared.Handed.TheVariants.{Operation, Malformed, End}
-use Rattle.operation.specs.declared.Wholeness.{Wholeness}
-use Rattle.operation.specs.declared.Wholeness.TheVariants.{Whole, Broken}
-use Rattle.operation.specs.Handing.{op_of, name_of, from_of, size_of, Inside, wholeness}
+use Rattle.operation.specs.declared.Malformed.{Malformed}
+use Rattle.operation.specs.Handing.{op_of, name_of, from_of, size_of, Inside, Handed, handed, refused, ended, wholeness}
 
 -- ---- what a turn begins with
 
 -- what octets hand out: the end where there are none, else what their first operation is
 pub data Handing : Type 0 where
-  ended : Handing
+  no_more : Handing
   found : Next → Handing
 
 unfoldable pub first : ℕ → List ℕ → Handing
-first p [] = ended
+first p [] = no_more
 first p (c ∷ s) = found (shaped (shape p c) s)
 
 unfoldable pub handing : List ℕ → Handed → Handing
-handing s (Operation o next) = found (got (op_of s o) (drop next s))
-handing s (Malformed q) = found bad
-handing s End = ended
+handing s (Ok (Some n)) = found (got (op_of s n.op) (drop n.behind s))
+handing s (Ok None) = no_more
+handing s (Err e) = found bad
 
 -- the place after an operation lies ahead, and within n octets; the position of one that is malformed is that of the place in the message
 abbrev pub Reached : ℕ → ℕ → Handed → Type 0
-Reached n at (Operation o next) = (at < next) × (next ≤ n) × Inside n o
-Reached n at (Malformed q) = q ≡ in_message at
-Reached n at End = Unit {0}
+Reached n at (Ok (Some o)) = (at < o.behind) × (o.behind ≤ n) × Inside n o.op
+Reached n at (Ok None) = Unit {0}
+Reached n at (Err e) = e.position ≡ in_message at
 
 -- r is what the list s hands out at a place, wherever a value lies
 abbrev pub HandsOut : ℕ → List ℕ → ℕ → Handed → Type 0
 HandsOut p s at r = (handing s r ≡ first p (drop at s)) × Reached (length s) at r
 
+-- no operation is handed out
+abbrev pub NoOperation : Handed → Type 0
+NoOperation h = (o : Op) (next : ℕ) → h ≡ handed o next → ⊥
+
 -- ---- what is parsed
 
 -- what is parsed where the first operation is known
 unfoldable parsed : ℕ → Handing → Option (List operation.Op)
-parsed p ended = some []
+parsed p no_more = some []
 parsed p (found nx) = follow nx (parse p)
 
 parse-first : (p : ℕ) (s : List ℕ) → parse p s ≡ parsed p (first p s)
@@ -62,18 +64,18 @@ parse-handing : (p : ℕ) (s : List ℕ) (at : ℕ) (r : Handed) → handing s r
 parse-handing p s at r e = parse-first p (drop at s) ∙ ap (parsed p) (sym e)
 
 -- an operation: the rest is parsed from the place after it
-pub turn : (p : ℕ) (s : List ℕ) (at next : ℕ) (o : Op) → handing s (Operation o next) ≡ first p (drop at s)
+pub turn : (p : ℕ) (s : List ℕ) (at next : ℕ) (o : Op) → handing s (handed o next) ≡ first p (drop at s)
     → parse p (drop at s) ≡ more (op_of s o) (parse p (drop next s))
 unfolding parsed handing follow
-turn p s at next o e = parse-handing p s at (Operation o next) e
+turn p s at next o e = parse-handing p s at (handed o next) e
 
-pub turn-malformed : (p : ℕ) (s : List ℕ) (at q : ℕ) → handing s (Malformed q) ≡ first p (drop at s) → parse p (drop at s) ≡ none
+pub turn-malformed : (p : ℕ) (s : List ℕ) (at q : ℕ) → handing s (refused q) ≡ first p (drop at s) → parse p (drop at s) ≡ none
 unfolding parsed handing follow
-turn-malformed p s at q e = parse-handing p s at (Malformed q) e
+turn-malformed p s at q e = parse-handing p s at (refused q) e
 
-pub turn_end : (p : ℕ) (s : List ℕ) (at : ℕ) → handing s End ≡ first p (drop at s) → parse p (drop at s) ≡ some []
+pub turn_end : (p : ℕ) (s : List ℕ) (at : ℕ) → handing s ended ≡ first p (drop at s) → parse p (drop at s) ≡ some []
 unfolding parsed handing
-turn_end p s at e = parse-handing p s at End e
+turn_end p s at e = parse-handing p s at ended e
 
 more_some : (o : operation.Op) (q : Option (List operation.Op)) → is_some (more o q) ≡ is_some q
 unfolding more
@@ -85,7 +87,7 @@ unfolding more
 more_ops o none e = absurd (false≢true e)
 more_ops o (some os) e = refl
 
-module _ (p : ℕ) (s : List ℕ) (at next : ℕ) (o : Op) (e : handing s (Operation o next) ≡ first p (drop at s)) where
+module _ (p : ℕ) (s : List ℕ) (at next : ℕ) (o : Op) (e : handing s (handed o next) ≡ first p (drop at s)) where
   -- the octets from here are whole where those after the operation are
   pub turn_some : is_some (parse p (drop at s)) ≡ is_some (parse p (drop next s))
   turn_some = ap is_some (turn p s at next o e) ∙ more_some (op_of s o) (parse p (drop next s))
@@ -103,7 +105,7 @@ module _ (p : ℕ) (s : List ℕ) (at next : ℕ) (o : Op) (e : handing s (Opera
 
 -- the first operation of the octets from here, by what they hand out
 next_of : Handing → Next
-next_of ended = bad
+next_of no_more = bad
 next_of (found nx) = nx
 
 first_known : (p : ℕ) (s : List ℕ) (h : Handing) → h ≡ first p s → first_of p s ≡ next_of h
@@ -112,48 +114,50 @@ first_known p [] h e = ap next_of (sym e)
 first_known p (c ∷ s) h e = ap next_of (sym e)
 
 -- an operation: from here on and from the place after it the same is broken
-pub turn-broken : (p : ℕ) (s : List ℕ) (at next : ℕ) (o : Op) → handing s (Operation o next) ≡ first p (drop at s) → broken p (drop at s) ≡ broken p (drop next s)
+pub turn-broken : (p : ℕ) (s : List ℕ) (at next : ℕ) (o : Op) → handing s (handed o next) ≡ first p (drop at s) → broken p (drop at s) ≡ broken p (drop next s)
 unfolding handing next_of
-turn-broken p s at next o e = broken-got p (drop at s) (op_of s o) (drop next s) (first_known p (drop at s) (handing s (Operation o next)) e)
+turn-broken p s at next o e = broken-got p (drop at s) (op_of s o) (drop next s) (first_known p (drop at s) (handing s (handed o next)) e)
 
 -- one that is malformed or cut short: all from here on
-pub turn_breaks : (p : ℕ) (s : List ℕ) (at q : ℕ) → handing s (Malformed q) ≡ first p (drop at s) → broken p (drop at s) ≡ drop at s
+pub turn_breaks : (p : ℕ) (s : List ℕ) (at q : ℕ) → handing s (refused q) ≡ first p (drop at s) → broken p (drop at s) ≡ drop at s
 unfolding handing next_of
-turn_breaks p s at q e = broken-bad p (drop at s) (first_known p (drop at s) (handing s (Malformed q)) e)
+turn_breaks p s at q e = broken-bad p (drop at s) (first_known p (drop at s) (handing s (refused q)) e)
 
 -- ---- whether a list is whole
 
-pub is_whole_lem : (p : ℕ) (s : List ℕ) → is_some (parse p s) ≡ true → Whole ≡ wholeness p s
+-- a list that is whole, and one that is refused with the position q
+abbrev pub is_whole : Result ⊤ Malformed
+is_whole = Ok tt
+
+abbrev pub refused_whole : ℕ → Result ⊤ Malformed
+refused_whole q = Err (record { position = q })
+
+position_in : Result ⊤ Malformed → ℕ
+position_in (Ok u) = 0
+position_in (Err e) = e.position
+
+pub is_whole_lem : (p : ℕ) (s : List ℕ) → is_some (parse p s) ≡ true → is_whole ≡ wholeness p s
 unfolding wholeness
 is_whole_lem p s w = rw w
 
-pub breaks_at : (p : ℕ) (s : List ℕ) (at q : ℕ) → at ≤ length s → is_some (parse p s) ≡ false → broken p s ≡ drop at s → q ≡ in_message at → Broken q ≡ wholeness p s
+pub breaks_at : (p : ℕ) (s : List ℕ) (at q : ℕ) → at ≤ length s → is_some (parse p s) ≡ false → broken p s ≡ drop at s → q ≡ in_message at → refused_whole q ≡ wholeness p s
 unfolding wholeness break_of
-breaks_at p s at q h w e k = rw (w, e, k) (ap Broken (omega (arith, length-drop at s, h)))
+breaks_at p s at q h w e k = rw (w, e, k) (ap refused_whole (omega (arith, length-drop at s, h)))
 
--- what an answer says of the list
-is_whole : Wholeness → Bool
-is_whole Whole = true
-is_whole (Broken q) = false
-
-position_in : Wholeness → ℕ
-position_in Whole = 0
-position_in (Broken q) = q
-
-pub whole_some : (p : ℕ) (s : List ℕ) → Whole ≡ wholeness p s → is_some (parse p s) ≡ true
-unfolding wholeness is_whole
+pub whole_some : (p : ℕ) (s : List ℕ) → is_whole ≡ wholeness p s → is_some (parse p s) ≡ true
+unfolding wholeness
 whole_some p s e = go (is_some (parse p s)) e
   where
-    go : (b : Bool) → Whole ≡ cond b Whole (Broken (break_of p s)) → b ≡ true
+    go : (b : Bool) → is_whole ≡ cond b is_whole (refused_whole (break_of p s)) → b ≡ true
     go true f = refl
-    go false f = sym (ap is_whole f)
+    go false f = absurd (false≢true (sym (ap is_ok f)))
 
-pub broken_none : (p : ℕ) (s : List ℕ) (q : ℕ) → Broken q ≡ wholeness p s → (is_some (parse p s) ≡ false) × (q ≡ break_of p s)
-unfolding wholeness is_whole position_in
-broken_none p s q e = go (is_some (parse p s)) e
+pub broken_none : (p : ℕ) (s : List ℕ) (e : Malformed) → refused_whole e.position ≡ wholeness p s → (is_some (parse p s) ≡ false) × (e.position ≡ break_of p s)
+unfolding wholeness position_in
+broken_none p s e q = go (is_some (parse p s)) q
   where
-    go : (b : Bool) → Broken q ≡ cond b Whole (Broken (break_of p s)) → (b ≡ false) × (q ≡ break_of p s)
-    go true f = absurd (false≢true (ap is_whole f))
+    go : (b : Bool) → refused_whole e.position ≡ cond b is_whole (refused_whole (break_of p s)) → (b ≡ false) × (e.position ≡ break_of p s)
+    go true f = absurd (false≢true (ap is_ok f))
     go false f = (refl, ap position_in f)
 
 -- ---- the fields of an operation that lies within a list
@@ -162,36 +166,36 @@ pub inside-name : (n : ℕ) (o : Op) → Inside n o → name_of o < 65536
 unfolding name_of
 inside-name n Capabilities h = omega arith
 inside-name n (Read name) h = h
-inside-name n (Set name from size) h = h.0
+inside-name n (Set v) h = h.0
 inside-name n (Subscribe name) h = h
 inside-name n (Unsubscribe name) h = h
-inside-name n (SelectiveRead name from size) h = h.0
-inside-name n (SelectiveSubscribe name from size) h = h.0
-inside-name n (SelectiveUnsubscribe name from size) h = h.0
-inside-name n (DeleteEntry name from size) h = h.0
+inside-name n (SelectiveRead v) h = h.0
+inside-name n (SelectiveSubscribe v) h = h.0
+inside-name n (SelectiveUnsubscribe v) h = h.0
+inside-name n (DeleteEntry v) h = h.0
 
 pub inside-value : (n : ℕ) (o : Op) → Inside n o → from_of o + size_of o ≤ n
 unfolding from_of size_of
 inside-value n Capabilities h = omega arith
 inside-value n (Read name) h = omega arith
-inside-value n (Set name from size) h = h.1
+inside-value n (Set v) h = h.1
 inside-value n (Subscribe name) h = omega arith
 inside-value n (Unsubscribe name) h = omega arith
-inside-value n (SelectiveRead name from size) h = omega arith
-inside-value n (SelectiveSubscribe name from size) h = omega arith
-inside-value n (SelectiveUnsubscribe name from size) h = omega arith
-inside-value n (DeleteEntry name from size) h = omega arith
+inside-value n (SelectiveRead v) h = omega arith
+inside-value n (SelectiveSubscribe v) h = omega arith
+inside-value n (SelectiveUnsubscribe v) h = omega arith
+inside-value n (DeleteEntry v) h = omega arith
 
 pub inside-within : (n k : ℕ) (o : Op) → n ≤ k → Inside n o → Inside k o
 inside-within n k Capabilities l h = h
 inside-within n k (Read name) l h = h
-inside-within n k (Set name from size) l h = (h.0, omega (arith, h.1, l))
+inside-within n k (Set v) l h = (h.0, omega (arith, h.1, l))
 inside-within n k (Subscribe name) l h = h
 inside-within n k (Unsubscribe name) l h = h
-inside-within n k (SelectiveRead name from size) l h = (h.0, omega (arith, h.1, l))
-inside-within n k (SelectiveSubscribe name from size) l h = (h.0, omega (arith, h.1, l))
-inside-within n k (SelectiveUnsubscribe name from size) l h = (h.0, omega (arith, h.1, l))
-inside-within n k (DeleteEntry name from size) l h = (h.0, omega (arith, h.1, l))
+inside-within n k (SelectiveRead v) l h = (h.0, omega (arith, h.1, l))
+inside-within n k (SelectiveSubscribe v) l h = (h.0, omega (arith, h.1, l))
+inside-within n k (SelectiveUnsubscribe v) l h = (h.0, omega (arith, h.1, l))
+inside-within n k (DeleteEntry v) l h = (h.0, omega (arith, h.1, l))
 
 -- ---- a list that is whole
 

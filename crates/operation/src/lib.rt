@@ -6,38 +6,92 @@ ghost use Rattle.std.specs.Prelude.{◌+◌, ◌≤◌, ◌<◌, ◌≡◌, leng
 ghost use Rattle.meaning.specs.Octets.{octet};
 ghost use Rattle.meaning.specs.Operation.{bad};
 ghost use Rattle.meaning.specs.Profile.{has_code};
-ghost use Rattle.operation.specs.Handing.{name_of, from_of, size_of, NoValue, found_at, handed_at, wholeness};
+ghost use Rattle.operation.specs.Handing.{name_of, from_of, size_of, NoValue, found_at, handed_at, operation_in, place_behind, wholeness};
 
-// An operation. A value lies in the list: where it starts, and its length.
+// A name and a value, which lies in the list: where it starts, and its length.
+#[derive(Clone, Copy)]
+pub struct NamedValue {
+    pub name: usize,
+    pub from: usize,
+    pub size: usize,
+}
+
+// An operation.
 #[derive(Clone, Copy)]
 pub enum Op {
     Capabilities,
     Read(usize),
-    Set(usize, usize, usize),
+    Set(NamedValue),
     Subscribe(usize),
     Unsubscribe(usize),
-    SelectiveRead(usize, usize, usize),
-    SelectiveSubscribe(usize, usize, usize),
-    SelectiveUnsubscribe(usize, usize, usize),
-    DeleteEntry(usize, usize, usize),
+    SelectiveRead(NamedValue),
+    SelectiveSubscribe(NamedValue),
+    SelectiveUnsubscribe(NamedValue),
+    DeleteEntry(NamedValue),
 }
 
-// What a list hands out at a place: an operation and the place after it; the position in the message of one that is
-// malformed or cut short; the end.
+impl Op {
+    // The name of an operation; 0 where it has none.
+    #[tactic(auto, unfolding(crate::specs::Handing::name_of))]
+    pub fn name(self) -> usize
+        ensures { result ≡ name_of self }
+    {
+        match self {
+            Op::Capabilities => 0,
+            Op::Read(name) | Op::Subscribe(name) | Op::Unsubscribe(name) => name,
+            Op::Set(v)
+            | Op::SelectiveRead(v)
+            | Op::SelectiveSubscribe(v)
+            | Op::SelectiveUnsubscribe(v)
+            | Op::DeleteEntry(v) => v.name,
+        }
+    }
+
+    // Where the value of a set starts; 0 for any other operation.
+    #[tactic(auto, unfolding(crate::specs::Handing::from_of))]
+    pub fn start(self) -> usize
+        ensures { result ≡ from_of self }
+    {
+        match self {
+            Op::Set(v) => v.from,
+            _ => 0,
+        }
+    }
+
+    // The length of the value of a set; 0 for any other operation.
+    #[tactic(auto, unfolding(crate::specs::Handing::size_of))]
+    pub fn size(self) -> usize
+        ensures { result ≡ size_of self }
+    {
+        match self {
+            Op::Set(v) => v.size,
+            _ => 0,
+        }
+    }
+}
+
+// What stands in a list where an operation is malformed or cut short: its position in the message.
 #[derive(Clone, Copy)]
-pub enum Handed {
-    Operation(Op, usize),
-    Malformed(usize),
-    End,
+pub struct Malformed {
+    pub position: usize,
 }
 
-// What is handed out at a place where an operation is malformed or cut short. The list is lent for its length: no position of a
-// place within it is too large for a number.
-fn malformed_at(list: &[u8], at: usize) -> Handed
+// An operation of a list, and the place behind it.
+#[derive(Clone, Copy)]
+pub struct NextOperation {
+    pub op: Op,
+    pub behind: usize,
+}
+
+// The refusal at a place where an operation is malformed or cut short. The list is there for the proof alone: the
+// position of a place within it fits a number.
+fn malformed_at(list: &[u8], at: usize) -> Result<Option<NextOperation>, Malformed>
     requires { at < length list.now }
     ensures { result ≡ found_at (length list.now) at bad }
 {
-    Handed::Malformed(wire::COMMAND_HEAD + at)
+    Err(Malformed {
+        position: wire::COMMAND_HEAD + at,
+    })
 }
 
 // Whether a profile has a code: Release 16 has none above that of unsubscribe (RULES 24.5).
@@ -50,7 +104,7 @@ fn has_code(profile: u8, code: u8) -> bool
 // The operation at a place whose code, if it is one at all, has a value: a set, or one of the four that are laid out as a set.
 // The code is asked last: octets that are too few are malformed in any case. Here alone the profile decides, since every profile
 // has the codes behind which no value stands.
-fn valued_at(list: &[u8], at: usize, profile: u8) -> Handed
+fn valued_at(list: &[u8], at: usize, profile: u8) -> Result<Option<NextOperation>, Malformed>
     requires { (at + 3 ≤ length list.now) × (NoValue (octet list.now at) → ⊥) }
     ensures { result ≡ handed_at profile list.now at }
 {
@@ -68,29 +122,35 @@ fn valued_at(list: &[u8], at: usize, profile: u8) -> Handed
     }
     let name = octets::get16(list, at + 1);
     let from = at + 5;
+    let value = NamedValue { name, from, size };
     let op = match code {
-        wire::CODE_SET => Op::Set(name, from, size),
-        wire::CODE_SELECTIVE_READ => Op::SelectiveRead(name, from, size),
-        wire::CODE_SELECTIVE_SUBSCRIBE => Op::SelectiveSubscribe(name, from, size),
-        wire::CODE_SELECTIVE_UNSUBSCRIBE => Op::SelectiveUnsubscribe(name, from, size),
-        wire::CODE_DELETE_ENTRY => Op::DeleteEntry(name, from, size),
+        wire::CODE_SET => Op::Set(value),
+        wire::CODE_SELECTIVE_READ => Op::SelectiveRead(value),
+        wire::CODE_SELECTIVE_SUBSCRIBE => Op::SelectiveSubscribe(value),
+        wire::CODE_SELECTIVE_UNSUBSCRIBE => Op::SelectiveUnsubscribe(value),
+        wire::CODE_DELETE_ENTRY => Op::DeleteEntry(value),
         _ => return malformed_at(list, at),
     };
-    Handed::Operation(op, from + size)
+    Ok(Some(NextOperation {
+        op,
+        behind: from + size,
+    }))
 }
 
-// The operation at a place of a list; the end for every place past its last octet.
-pub fn operation_at(list: &[u8], at: usize, profile: u8) -> Handed
+// The operation at a place of a list; none for every place past its last octet. It is part of each loop that reads a list: as a
+// function of its own it takes most of the time of a command of reads (DECISIONS 211).
+#[inline(always)]
+pub fn operation_at(list: &[u8], at: usize, profile: u8) -> Result<Option<NextOperation>, Malformed>
     ensures { result ≡ handed_at profile list.now at }
 {
     if list.len() <= at {
-        return Handed::End;
+        return Ok(None);
     }
     let left = list.len() - at;
     let code = list[at];
     if code == wire::CODE_CAPABILITIES {
         let op = Op::Capabilities;
-        return Handed::Operation(op, at + 1);
+        return Ok(Some(NextOperation { op, behind: at + 1 }));
     }
     if left < 3 {
         return malformed_at(list, at);
@@ -102,7 +162,7 @@ pub fn operation_at(list: &[u8], at: usize, profile: u8) -> Handed
         wire::CODE_UNSUBSCRIBE => Op::Unsubscribe(name),
         _ => return valued_at(list, at, profile),
     };
-    Handed::Operation(op, at + 3)
+    Ok(Some(NextOperation { op, behind: at + 3 }))
 }
 
 // A reader: the list that is read, and the place at which it goes on.
@@ -112,103 +172,36 @@ pub struct Reader<'a> {
     pub at: usize,
 }
 
-// A reader at the start of a list.
-pub fn reader_of<'a>(list: &'a [u8]) -> Reader<'a>
-    ensures { (result.list ≡ list.entry) × (result.at ≡ 0) }
-{
-    Reader { list, at: 0 }
-}
+impl<'a> Reader<'a> {
+    // A reader at the start of a list.
+    pub fn new(list: &'a [u8]) -> Reader<'a>
+        ensures { (result.list ≡ list.entry) × (result.at ≡ 0) }
+    {
+        Reader { list, at: 0 }
+    }
 
-// What a reader hands out at its place.
-pub fn next<'a>(r: Reader<'a>, profile: u8) -> Handed
-    ensures { result ≡ handed_at profile r.entry.list.now r.entry.at }
-{
-    operation_at(r.list, r.at, profile)
-}
-
-// The reader moved to another place.
-pub fn moved<'a>(r: Reader<'a>, at: usize) -> Reader<'a>
-    ensures { (result.list ≡ r.entry.list) × (result.at ≡ at) }
-{
-    Reader { list: r.list, at }
-}
-
-// What a reader of a list hands out at a place. Its parameters are plain, so whoever calls it is proved without a walk of the code.
-pub fn hand_out(list: &[u8], at: usize, profile: u8) -> Handed
-    ensures { result ≡ handed_at profile list.now at }
-{
-    next(moved(reader_of(list), at), profile)
+    // The operation at the reader's place, which moves behind it; none at the end of the list.
+    #[inline(always)]
+    #[tactic(auto, unfolding(crate::specs::Handing::operation_in, crate::specs::Handing::place_behind))]
+    pub fn next_operation(&mut self, profile: u8) -> Result<Option<Op>, Malformed>
+        ensures handed { result ≡ operation_in (handed_at profile self.old.list.now self.old.at) }
+        ensures list { self.new.list ≡ self.old.list }
+        ensures place { self.new.at ≡ place_behind self.old.at (handed_at profile self.old.list.now self.old.at) }
+    {
+        let Some(next) = operation_at(self.list, self.at, profile)? else {
+            return Ok(None);
+        };
+        self.at = next.behind;
+        Ok(Some(next.op))
+    }
 }
 
 // Whether each octet of a list belongs to a whole operation; else the position in the message of the first one that is
 // malformed or cut short.
-#[derive(Clone, Copy)]
-pub enum Wholeness {
-    Whole,
-    Broken(usize),
-}
-
-// The wholeness of a list.
-pub fn whole(list: &[u8], profile: u8) -> Wholeness
+pub fn whole(list: &[u8], profile: u8) -> Result<(), Malformed>
     ensures { result ≡ wholeness profile list.now }
 {
-    let mut at: usize = 0;
-    loop {
-        match hand_out(list, at, profile) {
-            Handed::Operation(_, next) => at = next,
-            Handed::Malformed(position) => return Wholeness::Broken(position),
-            Handed::End => return Wholeness::Whole,
-        }
-    }
-}
-
-// The name of an operation; 0 where it has none.
-pub fn name_of(op: Op) -> usize
-    ensures { result ≡ name_of op }
-{
-    match op {
-        Op::Capabilities => 0,
-        Op::Read(name) => name,
-        Op::Set(name, _, _) => name,
-        Op::Subscribe(name) => name,
-        Op::Unsubscribe(name) => name,
-        Op::SelectiveRead(name, _, _) => name,
-        Op::SelectiveSubscribe(name, _, _) => name,
-        Op::SelectiveUnsubscribe(name, _, _) => name,
-        Op::DeleteEntry(name, _, _) => name,
-    }
-}
-
-// Where the value of a set starts; 0 for any other operation.
-pub fn from_of(op: Op) -> usize
-    ensures { result ≡ from_of op }
-{
-    match op {
-        Op::Capabilities => 0,
-        Op::Read(_) => 0,
-        Op::Set(_, from, _) => from,
-        Op::Subscribe(_) => 0,
-        Op::Unsubscribe(_) => 0,
-        Op::SelectiveRead(_, _, _) => 0,
-        Op::SelectiveSubscribe(_, _, _) => 0,
-        Op::SelectiveUnsubscribe(_, _, _) => 0,
-        Op::DeleteEntry(_, _, _) => 0,
-    }
-}
-
-// The length of the value of a set; 0 for any other operation.
-pub fn size_of(op: Op) -> usize
-    ensures { result ≡ size_of op }
-{
-    match op {
-        Op::Capabilities => 0,
-        Op::Read(_) => 0,
-        Op::Set(_, _, size) => size,
-        Op::Subscribe(_) => 0,
-        Op::Unsubscribe(_) => 0,
-        Op::SelectiveRead(_, _, _) => 0,
-        Op::SelectiveSubscribe(_, _, _) => 0,
-        Op::SelectiveUnsubscribe(_, _, _) => 0,
-        Op::DeleteEntry(_, _, _) => 0,
-    }
+    let mut reader = Reader::new(list);
+    while reader.next_operation(profile)?.is_some() {}
+    Ok(())
 }

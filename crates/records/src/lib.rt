@@ -29,7 +29,8 @@ pub fn write_held(out: &mut [u8], at: usize, name: usize, value: &[u8]) -> usize
     octets::append(out, from, value)
 }
 
-// A value of at most 255 octets: name (2), length (1), the value.
+// A value of at most 255 octets: name (2), length (1), the value. It is not one function with `write_held`: each has a definition
+// of its own, and a parameter for the width of the length would say no more than the two names do.
 pub fn write_short(out: &mut [u8], at: usize, name: usize, value: &[u8]) -> usize
     requires { (at + (3 + length value.now) ≤ length out.old) × (name < 65536) × (length value.now ≤ short_most) }
     ensures { Wrote out.old at (short_octets (record { name = name; value = value.now })) result out.new }
@@ -78,10 +79,8 @@ pub fn write_names(out: &mut [u8], at: usize, profile: u8) -> usize
     ensures { Wrote out.old at (all_names profile) result out.new }
 {
     let mut to = at;
-    let mut k: usize = 0;
-    while k < table::ENTRY_COUNT {
+    for k in 0..table::ENTRY_COUNT {
         to = write_name(out, to, k, profile);
-        k += 1;
     }
     to
 }

@@ -3,7 +3,7 @@ use Prim.Native.Nat.{ℕ, ◌+◌, ◌≤◌, ◌<◌}
 use native.Mathlib.Omega.{arith}
 use mathlib.Core.Path.{◌≡◌, refl, sym, ap, ◌∙◌}
 use mathlib.Core.Logic.{◌≢◌}
-use mathlib.Core.Bool.{Bool, true, ◌||◌, cond}
+use mathlib.Core.Bool.{true, ◌||◌, cond}
 use mathlib.Core.List.{List, [], ◌∷◌, ◌++◌, append-nil, append_assoc}
 use lib.Dec.{eqb}
 use lib.ListN.{length}
@@ -13,23 +13,18 @@ use Rattle.meaning.specs.Profile.{names_length}
 use Rattle.meaning.specs.Operation.{parse, or_none}
 use Rattle.meaning.specs.Reply.{Held, Failed, Records, held_octets, short_octets, failed_octets, long_octets, read_contents, set_contents, all_names, element, any_read, any_set, complete}
 use Rattle.meaning.proofs.Tests.{every_at}
-use Rattle.meaning.proofs.Kept.{after-sound}
 use Rattle.meaning.proofs.Records.{Fits, fits_opened}
 use Rattle.octets.specs.Writing.{Wrote}
 use Rattle.meaning.proofs.Contents.{names-length}
 use Rattle.records.proofs.Pieces.{Left, left_start, left_as, first_fits, left_next}
-use Rattle.command.proofs.Sets.{long_of}
 use Rattle.tally.specs.declared.Tally.{Tally}
 use Rattle.tally.specs.Tallies as tallies
 use Rattle.tally.specs.Tallies.{read_octets, set_octets, element_length, reply_length, tally_fits}
 use Rattle.tally.proofs.Lengths.{tally_fits_lem, any_read_lem, any_set_lem, read-octets, set-octets, values-count, read_errors-count, updates-count, update_errors-count, long_updates-count, long_updates-octets}
 use Rattle.section.specs.Kinds.{Values, ReadErrors, Updates, UpdateErrors, LongUpdates, order, section, records_of}
-use Rattle.reply.specs.Sections.{opening, second_count, long_length, preface, piece, Ready, Fitting}
+use Rattle.reply.specs.Sections.{opening, second_count, long_length, preface, piece, Fitting}
 
 -- ---- what is asked of a reply
-
-pub copy_long : (p : ℕ) (m list copy : List ℕ) (changed : Bool) → Ready p m list copy changed → length copy ≡ 2100
-copy_long p m list copy changed r = ap length r.3 ∙ long_of _ (after-sound p m (or_none (parse p list)) r.0)
 
 pub fits_of : (p : ℕ) (m list : List ℕ) (t : Tally) (n : ℕ) → Fitting p m list t n → Fits p n (records_of p m list)
 fits_of p m list t n f = fits_opened p n m (or_none (parse p list)) (sym (tally_fits_lem p n m (or_none (parse p list))) ∙ rw f.0 at f.2)

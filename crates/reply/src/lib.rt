@@ -9,15 +9,17 @@ ghost use Rattle.meaning.specs.Step.{after};
 ghost use Rattle.meaning.specs.Reply.{all_names, element, complete};
 ghost use Rattle.octets.specs.Writing.{Wrote};
 ghost use Rattle.octets.specs.Filling.{Apart, Filled};
-ghost use Rattle.tally.specs.Tallies.{reply_length, tally_fits, Below};
+ghost use Rattle.tally.specs.Tallies.{reply_length, tally_fits};
 ghost use Rattle.section.specs.Kinds.{order, records_of};
 ghost use Rattle.section.specs.Places.{place_of};
 ghost use Rattle.reply.specs.Sections.{opening, second_count, long_length, preface, begins, Ready, Fitting};
 
 use section::Places;
+use table::Memory;
 use tally::{Count, Tally};
 
-// The head of an element, where it is needed, and the count of its first records.
+// The head of an element, where it is needed, and the count of its first records. Whether it is needed is asked once for both of
+// the element's counts, which the tally has in any case: neither is a value that is there only where the flag is set.
 fn write_opening(needed: bool, id: u8, n: usize, count: u32, out: &mut [u8], at: usize) -> usize
     requires { (needed ≡ true → n < 65536) × (count ≤ count_most) × (at + length (opening needed id n count) ≤ length out.old) }
     ensures { Wrote out.old at (opening needed id n count) result out.new }
@@ -55,17 +57,17 @@ fn write_longs(longs: Count, out: &mut [u8], at: usize) -> usize
 // The prefaces, what stands before the records of each kind; where the records go. The tally tells how long each section is, and so
 // where the next begins. They are the same in each profile: that the reply fits is asked of any.
 fn write_prefaces(t: Tally, out: &mut [u8], at: usize) -> Places
-    requires { Below 16777216 t × ((p : ℕ) × (tally_fits (reply_length p t) (length out.old) t ≡ true)) × Apart 0 order (begins t at) (preface t) (length out.old) }
+    requires { ((p : ℕ) × (tally_fits (reply_length p t) (length out.old) t ≡ true)) × Apart 0 order (begins t at) (preface t) (length out.old) }
     ensures { Filled order (begins t at) (preface t) out.old (place_of result) out.new }
 {
-    let reads = tally::any_read(t);
-    let sets = tally::any_set(t);
-    let n = tally::read_octets(t);
+    let reads = t.any_read();
+    let sets = t.any_set();
+    let n = t.read_octets();
     let values = write_opening(reads, wire::ELEMENT_STATUS, n, t.values.count, out, at);
     let second = values + t.values.octets as usize;
     let read_errors = write_second_count(reads, t.read_errors.count, out, second);
     let third = read_errors + t.read_errors.octets as usize;
-    let k = tally::set_octets(t);
+    let k = t.set_octets();
     let updates = write_opening(
         sets,
         wire::ELEMENT_UPDATE_RESULT,
@@ -103,11 +105,11 @@ fn write_capabilities(needed: bool, out: &mut [u8], at: usize, profile: u8) -> u
 // The whole reply at the start of a room that it fits. The copy holds afterwards what the operations leave; it is filled anew
 // where they have changed it.
 pub fn write(
-    m: &[u8],
+    m: &Memory,
     list: &[u8],
     t: Tally,
     changed: bool,
-    copy: &mut [u8],
+    copy: &mut Memory,
     out: &mut [u8],
     profile: u8,
 )

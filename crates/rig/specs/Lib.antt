@@ -1,2 +1,2 @@
--- What the contracts of `rig` cite beside `meaning`, `answers`, `stdio` and `script`.
+-- What `rig` does with its instructions.
 pub mod Script

@@ -2,7 +2,7 @@
 // A block is four values one behind another (RULES 8.1); every answer is that of a definition of `meaning`.
 #![tactic(auto)]
 
-ghost use Rattle.std.specs.Prelude.{◌≡◌, ◌+◌, ◌*◌, ◌%◌, ◌≤◌, true, ◌&&◌, ◌++◌, length, ◌==◌};
+ghost use Rattle.std.specs.Prelude.{◌≡◌, ◌≤◌, true, ◌&&◌, ◌++◌, length, ◌==◌};
 ghost use Rattle.meaning.specs.Octets.{be16, same};
 ghost use Rattle.meaning.specs.Table.{row_at, admin_control_list_length, admin_control_list, admin_cycle_time};
 ghost use Rattle.meaning.specs.Block.{sums_from, sums_of, sums, joined_block, list_of, ratio_of, form_and_fit, keeps, permits};
@@ -38,33 +38,28 @@ pub struct Sums {
     pub second: u16,
 }
 
-// A product modulo 65,536.
-fn times(a: u16, b: u16) -> u16
-    ensures { result ≡ (a * b) % 65536 }
-{
-    (a as u32 * b as u32 % 65536) as u16
-}
+impl Sums {
+    // The two sums over nothing.
+    const NONE: Sums = Sums {
+        first: 0,
+        second: 0,
+    };
 
-// The two sums, gone on with over a further part, each wrapping at 65,536. An octet adds to the second sum as often as octets
-// are left with it, so no turn waits for the one before.
-pub fn sums_on(first: u16, second: u16, part: &[u8]) -> Sums
-    ensures { (result.first ≡ (sums_from first second part.now).first) × (result.second ≡ (sums_from first second part.now).second) }
-{
-    let n = part.len();
-    let mut left = (n % 65536) as u16;
-    let mut a = first;
-    let mut b = std::num::wrapping_add_u16(second, times(first, left));
-    let mut i = 0;
-    while i < n {
-        let x = part[i] as u16;
-        a = std::num::wrapping_add_u16(a, x);
-        b = std::num::wrapping_add_u16(b, times(x, left));
-        left = std::num::wrapping_sub_u16(left, 1);
-        i += 1;
-    }
-    Sums {
-        first: a,
-        second: b,
+    // The two sums, gone on with over a further part, each wrapping at 65,536. An octet adds to the second sum as often as octets
+    // are left with it, so no turn waits for the one before.
+    pub fn on(self, part: &[u8]) -> Sums
+        ensures { (result.first ≡ (sums_from self.first self.second part.now).first) × (result.second ≡ (sums_from self.first self.second part.now).second) }
+    {
+        let mut left = (part.len() % 65536) as u16;
+        let mut first = self.first;
+        let mut second = self.second.wrapping_add(first.wrapping_mul(left));
+        for x in part {
+            let x = u16::from(*x);
+            first = first.wrapping_add(x);
+            second = second.wrapping_add(x.wrapping_mul(left));
+            left = left.wrapping_sub(1);
+        }
+        Sums { first, second }
     }
 }
 
@@ -72,17 +67,17 @@ pub fn sums_on(first: u16, second: u16, part: &[u8]) -> Sums
 pub fn sums_of(block: &[u8]) -> Sums
     ensures { (result.first ≡ (sums_of block.now).first) × (result.second ≡ (sums_of block.now).second) }
 {
-    sums_on(0, 0, block)
+    Sums::NONE.on(block)
 }
 
 // The two sums over the block that four values make: each value is summed where it stands, from where the one before it left off.
 pub fn sums_of_four(base: &[u8], count: &[u8], list: &[u8], ratio: &[u8]) -> Sums
     ensures { (result.first ≡ (sums_of (joined_block base.now count.now list.now ratio.now)).first) × (result.second ≡ (sums_of (joined_block base.now count.now list.now ratio.now)).second) }
 {
-    let a = sums_on(0, 0, base);
-    let b = sums_on(a.first, a.second, count);
-    let c = sums_on(b.first, b.second, list);
-    sums_on(c.first, c.second, ratio)
+    let a = Sums::NONE.on(base);
+    let b = a.on(count);
+    let c = b.on(list);
+    c.on(ratio)
 }
 
 // Form and fit of the block that four values make.
@@ -174,8 +169,8 @@ pub fn write_sums(s: Sums, out: &mut [u8])
     requires { length out.old ≡ 4 }
     ensures { out.new ≡ be16 s.first ++ be16 s.second }
 {
-    octets::put16(out, 0, s.first as usize);
-    octets::put16(out, 2, s.second as usize);
+    octets::put16(out, 0, usize::from(s.first));
+    octets::put16(out, 2, usize::from(s.second));
 }
 
 // Whether a value has 4 octets and they are the sums over the block that four values make.
@@ -186,5 +181,6 @@ pub fn sums_agree(base: &[u8], count: &[u8], list: &[u8], ratio: &[u8], value: &
         return false;
     }
     let s = sums_of_four(base, count, list, ratio);
-    (octets::get16(value, 0) == s.first as usize) & (octets::get16(value, 2) == s.second as usize)
+    (octets::get16(value, 0) == usize::from(s.first))
+        & (octets::get16(value, 2) == usize::from(s.second))
 }

@@ -14,10 +14,12 @@ use mir.Val.{SFits, to_z}
 use mir.Facts.{to_z_pos}
 use Rattle.meaning.specs.Gates.{refused, not_started, opens, gates_number}
 use Rattle.meaning.specs.Gates as meaning
+use Rattle.std.specs.Prelude.{Result, Ok, Err}
+use Rattle.gates.specs.declared.Refusal.{Refusal}
 use Rattle.gates.specs.declared.Refusal.TheVariants.{MemoryUnsound, NothingRuns}
 use Rattle.gates.specs.declared.Gates.{Gates}
-use Rattle.gates.specs.declared.Gates.TheVariants.{Refused, NotStarted, Open}
-use Rattle.gates.specs.Answers.{refusal_number, answer_of}
+use Rattle.gates.specs.declared.Gates.TheVariants.{NotStarted}
+use Rattle.gates.specs.Answers.{refusal_number, told, answer_of}
 use Rattle.text.specs.Lines.{line}
 use Rattle.text.proofs.Writes.{line-short}
 use Rattle.text.proofs.Decimals.{open_short}
@@ -58,12 +60,15 @@ instant-fits s = at (ltb (nanoseconds s) 0x8000000000000000) refl
 
 -- ---- gates that are not open
 
-pub not_open : (g : Gates) → ((s k d : ℕ) → g ≡ Open s k d → ⊥) → (gates_number (answer_of g) < 100) × (gates_line (answer_of g) ≡ line (gates_number (answer_of g)) [])
+pub refused-line : (g : Result Gates Refusal) → ((told : Gates) → g ≡ Ok told → ⊥) → (gates_number (answer_of g) < 100) × (gates_line (answer_of g) ≡ line (gates_number (answer_of g)) [])
 unfolding answer_of refusal_number gates_number gates_line
-not_open (Refused MemoryUnsound) t = (omega arith, refl)
-not_open (Refused NothingRuns) t = (omega arith, refl)
-not_open NotStarted t = (omega arith, refl)
-not_open (Open s k d) t = absurd (t s k d refl)
+refused-line (Err MemoryUnsound) t = (omega arith, refl)
+refused-line (Err NothingRuns) t = (omega arith, refl)
+refused-line (Ok told) t = absurd (t told refl)
+
+pub not_started-line : (gates_number (answer_of (Ok NotStarted)) < 100) × (gates_line (answer_of (Ok NotStarted)) ≡ line (gates_number (answer_of (Ok NotStarted))) [])
+unfolding told answer_of gates_number gates_line
+not_started-line = (omega arith, refl)
 
 pub gates-short : (g : meaning.Gates) → length (gates_line g) ≤ 50
 unfolding gates_line

@@ -1,8 +1,12 @@
 -- What is left in the arrays: a front that was lent and came back, and what an instruction leaves of a call's answer or of a line.
 use Prim.Native.Nat.{ℕ, ◌+◌, ◌≤◌}
-use native.Mathlib.Nat.{zero-add}
+use Rattle.std.specs.Prelude.{min}
+use Rattle.std.proofs.Math.Nat.{zero-add, min-eq_left, min-eq_right}
 use native.Mathlib.Omega.{arith}
-use mathlib.Core.Path.{◌≡◌, sym, ◌∙◌}
+use mathlib.Core.Path.{◌≡◌, refl, sym, ◌∙◌}
+use mathlib.Core.Bool.{Bool, true, false, cond}
+use lib.Dec.{ltb}
+use borrow.Author.Tests.{ltb-true, ltb-false}
 use mathlib.Core.List.{List, ◌++◌}
 use lib.ListN.{length, take, drop, replicate, length-replicate, take-append-drop}
 use lib.Seq.{drop_at, length-take-le}
@@ -10,6 +14,8 @@ use Rattle.meaning.specs.Octets.{splice}
 use Rattle.meaning.specs.Delay.{low_first, delay}
 use Rattle.meaning.specs.Calls.{Outcome}
 use Rattle.octets.specs.Writing.{Wrote}
+use Rattle.page.specs.declared.Page.{Page}
+use Rattle.page.specs.Printing.{Prints}
 use Rattle.octets.proofs.Splices.{splice_front}
 use Rattle.text.specs.Lines.{octets_line, lent_line}
 use Rattle.text.proofs.Writes.{octets-short, lent-short}
@@ -39,6 +45,15 @@ front_back s v w {n} e l =
     let d : drop n (v ++ drop n s) ≡ drop n s = drop_at v (drop n s) n (sym (zero-add _) ∙ k) in
     (sym m, rw (e.1, k, d, m))
 
+-- how long a room is made
+pub least : (asked : ℕ) → min asked 8192 ≡ room_length asked
+unfolding room_length
+least asked = at (ltb asked 8192) refl
+  where
+    at : (b : Bool) → ltb asked 8192 ≡ b → min asked 8192 ≡ cond b asked 8192
+    at true e = min-eq_left (omega (arith, ltb-true asked 8192 e))
+    at false e = min-eq_right (ltb-false asked 8192 e)
+
 -- a room's front, filled
 pub made : (room filled : List ℕ) (asked n : ℕ) → n ≡ room_length asked → filled ≡ replicate n 0xA5 ++ drop n room → Wrote room 0 (anew asked) n filled
 unfolding anew splice
@@ -51,28 +66,28 @@ pub delay-short : (n : ℕ) → length (octets_line (delay n)) ≤ 16396
 unfolding delay low_first
 delay-short n = omega (arith, octets-short (delay n))
 
-module _ (out : List ℕ) (at : ℕ) (lent : Lent) {end : ℕ} {out' : List ℕ} {d : Effect} (b : Lends lent) where
+module _ {page page' : Page} (lent : Lent) {d : Effect} (b : Lends lent) where
   -- a line alone: memory and room stay
-  pub line_left : (line m room : List ℕ) → d ≡ printed line (take lent.memory m) (take lent.room room) → Wrote out at line end out' → length line ≤ 16396
-      → length m ≡ 2200 → length room ≡ 8192 → Leaves d m room out at end lent m room out'
+  pub line_left : (line m room : List ℕ) → d ≡ printed line (take lent.memory m) (take lent.room room) → Prints page line page' → length line ≤ 16396
+      → length m ≡ 2200 → length room ≡ 8192 → Leaves d m room page page' lent m room
   line_left line m room e w s l k =
       rw e
       (record {
-        wrote = w;
-        short = omega arith;
+        printed = w;
+        short = omega (arith, w.place, s);
         lends = b;
         memory_is = front_kept m lent.memory (omega (arith, l, b.0));
         room_is = front_kept room lent.room (omega (arith, k, b.1));
       })
 
   -- a call
-  pub call_left : (code : ℕ) (o : Outcome) (m' m room' room room₁ last : List ℕ) → d ≡ answered code o → Wrote out at (told_line code o) end out' → m' ≡ o.memory → room' ≡ o.room
-      → end ≤ at + 16396 → length m ≡ 2200 → Wrote room 0 last lent.room room₁ → length m' ≡ lent.memory → length room' ≡ lent.room
-      → Leaves d m room out at end lent (m' ++ drop lent.memory m) (room' ++ drop lent.room room₁) out'
+  pub call_left : (code : ℕ) (o : Outcome) (m' m room' room room₁ last : List ℕ) → d ≡ answered code o → Prints page (told_line code o) page' → m' ≡ o.memory → room' ≡ o.room
+      → page'.at ≤ page.at + 16396 → length m ≡ 2200 → Wrote room 0 last lent.room room₁ → length m' ≡ lent.memory → length room' ≡ lent.room
+      → Leaves d m room page page' lent (m' ++ drop lent.memory m) (room' ++ drop lent.room room₁)
   call_left code o m' m room' room room₁ last e w i j s n f l k =
       rw e
       (record {
-        wrote = w;
+        printed = w;
         short = s;
         lends = b;
         memory_is = rw (← i) (front_back m (take lent.memory m) m' (front_kept m lent.memory (omega (arith, n, b.0))) l);
@@ -80,14 +95,14 @@ module _ (out : List ℕ) (at : ℕ) (lent : Lent) {end : ℕ} {out' : List ℕ}
       })
 
   -- a move, which leaves memory as it is
-  pub move_left : (code : ℕ) (o : Outcome) (m room' room room₁ last : List ℕ) → d ≡ answered code o → Wrote out at (told_line code o) end out'
+  pub move_left : (code : ℕ) (o : Outcome) (m room' room room₁ last : List ℕ) → d ≡ answered code o → Prints page (told_line code o) page'
       → o.memory ≡ take lent.memory m → room' ≡ o.room
-      → end ≤ at + 16396 → length m ≡ 2200 → Wrote room 0 last lent.room room₁ → length room' ≡ lent.room
-      → Leaves d m room out at end lent m (room' ++ drop lent.room room₁) out'
+      → page'.at ≤ page.at + 16396 → length m ≡ 2200 → Wrote room 0 last lent.room room₁ → length room' ≡ lent.room
+      → Leaves d m room page page' lent m (room' ++ drop lent.room room₁)
   move_left code o m room' room room₁ last e w i j s n f k =
       rw e
       (record {
-        wrote = w;
+        printed = w;
         short = s;
         lends = b;
         memory_is = rw i (front_kept m lent.memory (omega (arith, n, b.0)));
@@ -96,12 +111,12 @@ module _ (out : List ℕ) (at : ℕ) (lent : Lent) {end : ℕ} {out' : List ℕ}
 
   -- other memory
   pub lend_left : (body m m' room : List ℕ) → d ≡ printed (lent_line (length body)) body (take lent.room room) → Wrote m 0 body lent.memory m' → length room ≡ 8192
-      → Wrote out at (lent_line lent.memory) end out' → Leaves d m room out at end lent m' room out'
+      → Prints page (lent_line lent.memory) page' → Leaves d m room page page' lent m' room
   lend_left body m m' room e f k w =
       rw e
       (record {
-        wrote = rw (f.0 ∙ zero-add (length body)) at w;
-        short = omega (arith, w.0, lent-short lent.memory);
+        printed = rw (f.0 ∙ zero-add (length body)) at w;
+        short = omega (arith, w.place, lent-short lent.memory);
         lends = b;
         memory_is = f;
         room_is = front_kept room lent.room (omega (arith, k, b.1));

@@ -9,9 +9,9 @@ use lib.Dec.{eqb}
 use borrow.Author.Tests.{ne_eqb}
 use Rattle.meaning.specs.Calls as calls
 use Rattle.meaning.proofs.Refused.{RoomAfter}
-use Rattle.octets.specs.Writing.{Wrote}
-use Rattle.endpoint.specs.Outcomes.{length_of, position_of, Gives}
-use Rattle.endpoint.specs.declared.Outcome.{Outcome}
+use Rattle.page.specs.declared.Page.{Page}
+use Rattle.page.specs.Printing.{HasRoom, Prints}
+use Rattle.endpoint.specs.Outcomes.{Outcome, length_of, position_of, Gives}
 use Rattle.endpoint.proofs.OneOutcome.{found}
 use Rattle.text.proofs.Writes.{line-short, full_short}
 use Rattle.answers.specs.Answers.{line_of, answer_line, full_of, full_answer}
@@ -37,23 +37,24 @@ told-short code o = at (eqb code 9)
     at true = full_short o.number o.position o.written
     at false = omega (arith, line-short o.number o.written)
 
-module _ (made : ℕ) (body m room₀ out : List ℕ) (at : ℕ) {r : Outcome} {memory room : List ℕ} (g : Gives (called made body m room₀) r memory room) where
+module _ (made : ℕ) (body m room₀ : List ℕ) {r : Outcome} {memory room : List ℕ} (g : Gives (called made body m room₀) r memory room) where
   after : RoomAfter (called made body m room₀) room₀
   after = called-room made body m room₀
 
   long : length room ≡ length room₀
   long = ap length g.room_is ∙ after.long
 
-  pub tellable : at + (length room₀ + length room₀ + 12) ≤ length out → (length_of r ≤ length room) × (position_of r < 10000) × (at + (length room + length room + 12) ≤ length out)
-  tellable h =
+  pub tellable : (page : Page) → HasRoom page (length room₀ + length room₀ + 12)
+      → (length_of r ≤ length room) × (position_of r < 10000) × HasRoom page (length room + length room + 12)
+  tellable page h =
       (omega (arith, (found (called made body m room₀) room₀ after g).0, long), omega (arith, g.position, called-position made body m room₀), omega (arith, h, long))
 
   line-told : (code : ℕ) → told_answer code r room ≡ told_line code (called made body m room₀)
   unfolding told_answer told_line
-  line-told code = rw (full_is (called made body m room₀) room₀ out at after g, line_is (called made body m room₀) room₀ out at after g)
+  line-told code = rw (full_is (called made body m room₀) room₀ after g, line_is (called made body m room₀) room₀ after g)
 
-  pub told : (code : ℕ) {end : ℕ} {out' : List ℕ} → Wrote out at (told_answer code r room) end out'
-      → (end ≤ at + (length room₀ + length room₀ + 12)) × Wrote out at (told_line code (called made body m room₀)) end out'
+  pub told : (code : ℕ) {page page' : Page} → Prints page (told_answer code r room) page'
+      → (page'.at ≤ page.at + (length room₀ + length room₀ + 12)) × Prints page (told_line code (called made body m room₀)) page'
   told code p =
       let w = rw (line-told code) at p in
-      (omega (arith, w.0, told-short code (called made body m room₀), after.in_room), w)
+      (omega (arith, w.place, told-short code (called made body m room₀), after.in_room), w)

@@ -6,15 +6,16 @@ ghost use Rattle.std.specs.Prelude.{◌+◌, ◌≤◌, ◌<◌, ◌≡◌, true
 ghost use Rattle.meaning.specs.Delay.{delay};
 ghost use Rattle.meaning.specs.FormB.{gates};
 ghost use Rattle.octets.specs.Writing.{Wrote};
+ghost use Rattle.page.specs.Printing.{HasRoom, Prints};
 ghost use Rattle.endpoint.specs.Outcomes.{length_of, position_of, Gives};
 ghost use Rattle.gates.specs.Answers.{answer_of};
 ghost use Rattle.moves.specs.Moved as moved;
 ghost use Rattle.text.specs.Lines.{octets_line, line};
-ghost use Rattle.script.specs.Instructions.{body_right, room_length, anew, room_for, profile_asked, call_of, called, nanoseconds, instant, gates_line, moved_by};
-ghost use Rattle.script.specs.Takes.{told_answer, Ready, Takes};
+ghost use Rattle.script.specs.Instructions.{body_right, anew, room_for, profile_asked, call_of, called, nanoseconds, instant, gates_line, moved_by};
+ghost use Rattle.script.specs.Takes.{call_code, shown_code, move_code, Reads, told_answer, Ready, Does, Takes};
 
 use gates::Gates;
-use moves::Moved;
+use page::Page;
 
 // Most octets that can be lent as memory.
 pub const MOST_LENT: usize = 2200;
@@ -26,12 +27,6 @@ const HIGH: u64 = 1 << 32;
 const SIGN: u64 = 1 << 63;
 // What a room made anew holds.
 const ROOM_FILL: u8 = 0xA5;
-// The codes of a message, and of one that is told in full.
-const MESSAGE: u8 = 1;
-
-const IN_FULL: u8 = 9;
-// The code of the move forward. That of the move back follows, and there is no other behind them.
-const FORWARD: u8 = 11;
 
 // How many octets are lent as memory, and how many the room that was made last has.
 #[derive(Clone, Copy)]
@@ -40,43 +35,62 @@ pub struct Lent {
     pub room: usize,
 }
 
-// What became of an instruction: the place after its line, and what is lent from then on; or it is faulty.
+// A call over memory. `MessageInFull` is a message whose line also tells the position.
 #[derive(Clone, Copy)]
-pub enum Took {
-    Line(usize, Lent),
-    Faulty,
+enum Call {
+    Fresh,
+    Message,
+    LocalValue,
+    Build,
+    Expiry,
+    MessageInFull,
 }
 
-// Whether a code is known and its body has a right length.
-fn body_right(code: u8, n: usize) -> bool
-    ensures { result ≡ body_right code n }
+// A move of memory from one form to the other.
+#[derive(Clone, Copy)]
+enum Move {
+    Forward,
+    Back,
+}
+
+// What is shown: what is lent as memory or as a room, a delay that is converted, which gates are open.
+#[derive(Clone, Copy)]
+enum Shown {
+    Memory,
+    Room,
+    Delay,
+    Gates,
+}
+
+// What an instruction does. `Lend` lends other memory from then on.
+#[derive(Clone, Copy)]
+enum Instruction {
+    Call(Call),
+    Lend,
+    Show(Shown),
+    Move(Move),
+}
+
+// The instruction of a code with a body of n octets; none where the code is not known, or the body has no right length.
+fn read(code: u8, n: usize) -> Option<Instruction>
+    ensures { Reads code n result }
 {
     match code {
-        0 => n <= 1,
-        1 => 2 <= n,
-        2 => 2 <= n,
-        3 => n == 2,
-        4 => n == 0,
-        5 => n <= MOST_LENT,
-        6 => n == 0,
-        7 => n == 0,
-        8 => n == 8,
-        9 => 2 <= n,
-        10 => n == 8,
-        11 => n == 2,
-        12 => n == 2,
-        _ => false,
+        0 => (n <= 1).then_some(Instruction::Call(Call::Fresh)),
+        1 => (2 <= n).then_some(Instruction::Call(Call::Message)),
+        2 => (2 <= n).then_some(Instruction::Call(Call::LocalValue)),
+        3 => (n == 2).then_some(Instruction::Call(Call::Build)),
+        4 => (n == 0).then_some(Instruction::Call(Call::Expiry)),
+        5 => (n <= MOST_LENT).then_some(Instruction::Lend),
+        6 => (n == 0).then_some(Instruction::Show(Shown::Memory)),
+        7 => (n == 0).then_some(Instruction::Show(Shown::Room)),
+        8 => (n == 8).then_some(Instruction::Show(Shown::Delay)),
+        9 => (2 <= n).then_some(Instruction::Call(Call::MessageInFull)),
+        10 => (n == 8).then_some(Instruction::Show(Shown::Gates)),
+        11 => (n == 2).then_some(Instruction::Move(Move::Forward)),
+        12 => (n == 2).then_some(Instruction::Move(Move::Back)),
+        _ => None,
     }
-}
-
-// The length of a room that is made.
-fn room_length(asked: usize) -> usize
-    ensures { (result ≡ room_length asked) × (result ≤ 8192) }
-{
-    if asked < MOST_ROOM {
-        return asked;
-    }
-    MOST_ROOM
 }
 
 // A room made anew, of the length that is asked for; its length.
@@ -84,75 +98,73 @@ fn make_room(room: &mut [u8], asked: usize) -> usize
     requires { length room.old ≡ 8192 }
     ensures { (result ≤ 8192) × Wrote room.old 0 (anew asked) result room.new }
 {
-    let n = room_length(asked);
-    let mut i = 0;
-    while i < n {
-        room[i] = ROOM_FILL;
-        i += 1;
-    }
+    let n = asked.min(MOST_ROOM);
+    room[..n].fill(ROOM_FILL);
     n
 }
 
 // The room that a call is lent: made anew where its instruction asks for one, else that of the last; its length.
-fn room_for(room: &mut [u8], last: usize, code: u8, body: &[u8]) -> usize
-    requires { (length room.old ≡ 8192) × (last ≤ 8192) × (body_right code (length body.now) ≡ true) }
-    ensures { (result ≤ 8192) × Wrote room.old 0 (room_for code body.now (take last room.old)) result room.new }
+fn room_for(room: &mut [u8], last: usize, call: Call, body: &[u8]) -> usize
+    requires { (length room.old ≡ 8192) × (last ≤ 8192) × (body_right (call_code call) (length body.now) ≡ true) }
+    ensures { (result ≤ 8192) × Wrote room.old 0 (room_for (call_of (call_code call)) body.now (take last room.old)) result room.new }
 {
-    match code {
-        1 | 3 => make_room(room, octets::get16(body, 0)),
-        _ => last,
+    match call {
+        Call::Message | Call::MessageInFull | Call::Build => {
+            make_room(room, octets::get16(body, 0))
+        }
+        Call::Fresh | Call::LocalValue | Call::Expiry => last,
     }
-}
-
-// The code of the call that an instruction makes: a message that is told in full is a message.
-fn call_of(code: u8) -> u8
-    ensures { result ≡ call_of code }
-{
-    if code == IN_FULL {
-        return MESSAGE;
-    }
-    code
 }
 
 // The profile in which an instruction has memory made fresh: that of Release 18 where it names none.
 fn profile_asked(body: &[u8]) -> u8
     ensures { result ≡ profile_asked body.now }
 {
-    if body.len() == 0 {
-        return endpoint::RELEASE_18;
-    }
-    body[0]
+    body.first().copied().unwrap_or(endpoint::RELEASE_18)
 }
 
-// The calls over memory, by their instructions' codes.
-fn call(memory: &mut [u8], room: &mut [u8], code: u8, body: &[u8]) -> endpoint::Outcome
-    requires { (body_right code (length body.now) ≡ true) × (code < 5) }
-    ensures { Gives (called code body.now memory.old room.old) result memory.new room.new }
+// The calls over memory.
+fn make_call(memory: &mut [u8], room: &mut [u8], call: Call, body: &[u8]) -> endpoint::Outcome
+    requires { body_right (call_code call) (length body.now) ≡ true }
+    ensures { Gives (called (call_of (call_code call)) body.now memory.old room.old) result memory.new room.new }
 {
-    match code {
-        0 => endpoint::make_fresh(memory, profile_asked(body)),
-        1 => endpoint::message(memory, &body[2..], room),
-        2 => endpoint::local_value(memory, octets::get16(body, 0), &body[2..]),
-        3 => endpoint::build(memory, room),
-        _ => endpoint::expiry(memory),
+    match call {
+        Call::Fresh => endpoint::make_fresh(memory, profile_asked(body)),
+        Call::Message | Call::MessageInFull => endpoint::message(memory, &body[2..], room),
+        Call::LocalValue => endpoint::local_value(memory, octets::get16(body, 0), &body[2..]),
+        Call::Build => endpoint::build(memory, room),
+        Call::Expiry => endpoint::expiry(memory),
     }
 }
 
-// The line of a call's outcome, by its instruction's code.
-fn write_answer(
-    out: &mut [u8],
-    at: usize,
-    code: u8,
-    outcome: endpoint::Outcome,
-    room: &[u8],
-) -> usize
-    requires { (length_of outcome ≤ length room.now) × (position_of outcome < 10000) × (at + (length room.now + length room.now + 12) ≤ length out.old) }
-    ensures { Wrote out.old at (told_answer code outcome room.now) result out.new }
+// The line of a call's outcome.
+fn write_answer(page: &mut Page<'_>, call: Call, outcome: endpoint::Outcome, room: &[u8])
+    requires { (length_of outcome ≤ length room.now) × (position_of outcome < 10000) × HasRoom page.old (length room.now + length room.now + 12) }
+    ensures { Prints page.old (told_answer (call_code call) outcome room.now) page.new }
 {
-    if code == IN_FULL {
-        return answers::write_in_full(out, at, outcome, room);
+    match call {
+        Call::MessageInFull => answers::write_in_full(page, outcome, room),
+        _ => answers::write_outcome(page, outcome, room),
     }
-    answers::write_outcome(out, at, outcome, room)
+}
+
+// The instructions that are calls, over the memory that is lent.
+fn take_call(
+    memory: &mut [u8],
+    room: &mut [u8],
+    lent: Lent,
+    made: Call,
+    body: &[u8],
+    page: &mut Page<'_>,
+) -> Lent
+    requires { Ready memory.old room.old lent page.old × (body_right (call_code made) (length body.now) ≡ true) }
+    ensures { Does (call_code made) body.now memory.old room.old lent page.old page.new result memory.new room.new }
+{
+    let m = lent.memory;
+    let n = room_for(room, lent.room, made, body);
+    let outcome = make_call(&mut memory[..m], &mut room[..n], made, body);
+    write_answer(page, made, outcome, &room[..n]);
+    Lent { memory: m, room: n }
 }
 
 // The number that eight octets spell.
@@ -164,12 +176,12 @@ fn nanoseconds(body: &[u8]) -> u64
 }
 
 // The line of a delay, from its nanoseconds.
-fn show_delay(body: &[u8], out: &mut [u8], at: usize) -> usize
-    requires { (length body.now ≡ 8) × (at + 18 ≤ length out.old) }
-    ensures { Wrote out.old at (octets_line (delay (nanoseconds body.now))) result out.new }
+fn show_delay(page: &mut Page<'_>, body: &[u8])
+    requires { (length body.now ≡ 8) × HasRoom page.old 18 }
+    ensures { Prints page.old (octets_line (delay (nanoseconds body.now))) page.new }
 {
     let stored = endpoint::delay_octets(delay::Nanoseconds(nanoseconds(body)));
-    text::write_octets(out, at, &stored)
+    text::write_octets(page, &stored);
 }
 
 // The instant that eight octets spell. A cast takes what fits alone, so a number below 0 is counted back from -1.
@@ -184,42 +196,52 @@ fn instant(body: &[u8]) -> i64
     -1 - ((u64::MAX - n) as i64)
 }
 
-// The line of the gates.
-fn write_gates(out: &mut [u8], at: usize, answer: Gates) -> usize
-    requires { at + 50 ≤ length out.old }
-    ensures { Wrote out.old at (gates_line (answer_of answer)) result out.new }
+// The line of the gates. Two steps and not `Ok(Gates::Open { .. })`: where that one does not match, the proof would not know which
+// of the two failed.
+fn write_gates(page: &mut Page<'_>, answer: Result<Gates, gates::Refusal>)
+    requires { HasRoom page.old 50 }
+    ensures { Prints page.old (gates_line (answer_of answer)) page.new }
 {
-    let Gates::Open(states, entry, nanoseconds) = answer else {
-        return text::write_line(out, at, gates::number(answer), b"");
+    let number = gates::number(answer);
+    let Ok(gates) = answer else {
+        text::write_line(page, number, b"");
+        return;
     };
-    text::write_open_line(out, at, states, entry, nanoseconds)
+    match gates {
+        Gates::NotStarted => text::write_line(page, number, b""),
+        Gates::Open {
+            states,
+            entry,
+            nanoseconds,
+        } => text::write_open_line(page, states, entry, nanoseconds),
+    }
 }
 
 // The line of the gates at an instant.
-fn show_gates(memory: &[u8], body: &[u8], out: &mut [u8], at: usize) -> usize
-    requires { (length body.now ≡ 8) × (at + 50 ≤ length out.old) }
-    ensures { Wrote out.old at (gates_line (gates memory.now (instant body.now))) result out.new }
+fn show_gates(page: &mut Page<'_>, memory: &[u8], body: &[u8])
+    requires { (length body.now ≡ 8) × HasRoom page.old 50 }
+    ensures { Prints page.old (gates_line (gates memory.now (instant body.now))) page.new }
 {
-    write_gates(out, at, gates::gates_at(memory, instant(body)))
+    write_gates(page, gates::gates_at(memory, instant(body)));
 }
 
-// The moves of memory into a room, by their instructions' codes.
-fn move_memory(memory: &[u8], room: &mut [u8], code: u8) -> Moved
-    ensures { moved.Gives (moved_by code memory.now room.old) result memory.now room.new }
+// The moves of memory into a room.
+fn move_memory(memory: &[u8], room: &mut [u8], way: Move) -> Result<usize, moves::Refusal>
+    ensures { moved.Gives (moved_by (move_code way) memory.now room.old) result memory.now room.new }
 {
-    if code == FORWARD {
-        return moves::forward(memory, room);
+    match way {
+        Move::Forward => moves::forward(memory, room),
+        Move::Back => moves::back(memory, room),
     }
-    moves::back(memory, room)
 }
 
 // The line of a move's answer.
-fn write_move(out: &mut [u8], at: usize, answer: Moved, room: &[u8]) -> usize
-    requires { (moved.length_of answer ≤ length room.now) × (at + (length room.now + length room.now + 5) ≤ length out.old) }
-    ensures { Wrote out.old at (line (moved.number_of answer) (take (moved.length_of answer) room.now)) result out.new }
+fn write_move(page: &mut Page<'_>, answer: Result<usize, moves::Refusal>, room: &[u8])
+    requires { (moved.length_of answer ≤ length room.now) × HasRoom page.old (length room.now + length room.now + 5) }
+    ensures { Prints page.old (line (moved.number_of answer) (take (moved.length_of answer) room.now)) page.new }
 {
     let n = moves::written(answer);
-    text::write_line(out, at, moves::number(answer), &room[..n])
+    text::write_line(page, moves::number(answer), &room[..n]);
 }
 
 // The instructions that move the memory that is lent, which stays as it is.
@@ -227,75 +249,57 @@ fn take_move(
     memory: &[u8],
     room: &mut [u8],
     lent: Lent,
-    code: u8,
+    way: Move,
     body: &[u8],
-    out: &mut [u8],
-    at: usize,
-) -> Took
-    requires { Ready memory.now room.old lent out.old at × (body_right code (length body.now) ≡ true) × (11 ≤ code) }
-    ensures { Takes code body.now memory.now room.old lent out.old at result memory.now room.new out.new }
+    page: &mut Page<'_>,
+) -> Lent
+    requires { Ready memory.now room.old lent page.old × (body_right (move_code way) (length body.now) ≡ true) }
+    ensures { Does (move_code way) body.now memory.now room.old lent page.old page.new result memory.now room.new }
 {
     let m = lent.memory;
     let n = make_room(room, octets::get16(body, 0));
-    let answer = move_memory(&memory[..m], &mut room[..n], code);
-    let end = write_move(out, at, answer, &room[..n]);
-    Took::Line(end, Lent { memory: m, room: n })
+    let answer = move_memory(&memory[..m], &mut room[..n], way);
+    write_move(page, answer, &room[..n]);
+    Lent { memory: m, room: n }
 }
 
-// The instructions that are no calls over memory.
-fn take_other(
-    memory: &mut [u8],
-    room: &[u8],
-    lent: Lent,
-    code: u8,
-    body: &[u8],
-    out: &mut [u8],
-    at: usize,
-) -> Took
-    requires { Ready memory.old room.now lent out.old at × (body_right code (length body.now) ≡ true) × (5 ≤ call_of code) × (code < 11) }
-    ensures { Takes code body.now memory.old room.now lent out.old at result memory.new room.now out.new }
+// The line of an instruction that shows something; nothing that is lent changes.
+fn show(page: &mut Page<'_>, memory: &[u8], room: &[u8], lent: Lent, shown: Shown, body: &[u8])
+    requires { Ready memory.now room.now lent page.old × (body_right (shown_code shown) (length body.now) ≡ true) }
+    ensures { Does (shown_code shown) body.now memory.now room.now lent page.old page.new lent memory.now room.now }
 {
-    let m = lent.memory;
-    let n = lent.room;
-    match code {
-        5 => {
-            let k = octets::append(memory, 0, body);
-            let end = text::write_lent(out, at, k);
-            Took::Line(end, Lent { memory: k, room: n })
-        }
-        6 => Took::Line(text::write_octets(out, at, &memory[..m]), lent),
-        7 => Took::Line(text::write_octets(out, at, &room[..n]), lent),
-        8 => Took::Line(show_delay(body, out, at), lent),
-        _ => Took::Line(show_gates(&memory[..m], body, out, at), lent),
+    match shown {
+        Shown::Memory => text::write_octets(page, &memory[..lent.memory]),
+        Shown::Room => text::write_octets(page, &room[..lent.room]),
+        Shown::Delay => show_delay(page, body),
+        Shown::Gates => show_gates(page, &memory[..lent.memory], body),
     }
 }
 
-// Takes one instruction: what is lent is lent to its call, and its line is written at a place.
+// Takes one instruction: what is lent is lent to its call, and its line is printed. What is lent from then on; none where
+// the instruction is faulty.
 pub fn take_instruction(
     memory: &mut [u8],
     room: &mut [u8],
     lent: Lent,
     code: u8,
     body: &[u8],
-    out: &mut [u8],
-    at: usize,
-) -> Took
-    requires { Ready memory.old room.old lent out.old at }
-    ensures { Takes code body.now memory.old room.old lent out.old at result memory.new room.new out.new }
+    page: &mut Page<'_>,
+) -> Option<Lent>
+    requires { Ready memory.old room.old lent page.old }
+    ensures { Takes code body.now memory.old room.old lent page.old page.new result memory.new room.new }
 {
-    if !body_right(code, body.len()) {
-        return Took::Faulty;
+    match read(code, body.len())? {
+        Instruction::Call(made) => Some(take_call(memory, room, lent, made, body, page)),
+        Instruction::Lend => {
+            let k = octets::append(memory, 0, body);
+            text::write_lent(page, k);
+            Some(Lent { memory: k, ..lent })
+        }
+        Instruction::Show(shown) => {
+            show(page, memory, room, lent, shown, body);
+            Some(lent)
+        }
+        Instruction::Move(way) => Some(take_move(memory, room, lent, way, body, page)),
     }
-    if FORWARD <= code {
-        return take_move(memory, room, lent, code, body, out, at);
-    }
-    let made = call_of(code);
-    if 5 <= made {
-        return take_other(memory, room, lent, code, body, out, at);
-    }
-    let m = lent.memory;
-    let n = room_for(room, lent.room, made, body);
-    let outcome = call(&mut memory[..m], &mut room[..n], made, body);
-    let end = write_answer(out, at, code, outcome, &room[..n]);
-    Took::Line(end, Lent { memory: m, room: n })
 }

@@ -14,20 +14,21 @@ use Rattle.meaning.specs.Operation as operation
 use Rattle.meaning.specs.Operation.{capabilities, read, set, subscribe, unsubscribe, selective_read, selective_subscribe, selective_unsubscribe, delete_entry}
 use Rattle.meaning.specs.Step.{step}
 use Rattle.meaning.proofs.Running.{step-running}
+use Rattle.std.specs.Prelude.{Option, Some, None}
+use Rattle.operation.specs.declared.NamedValue.{NamedValue}
 use Rattle.operation.specs.declared.Op.{Op}
 use Rattle.operation.specs.declared.Op.TheVariants.{Capabilities, Read, Set, Subscribe, Unsubscribe, SelectiveRead, SelectiveSubscribe, SelectiveUnsubscribe, DeleteEntry}
 use Rattle.operation.specs.Handing.{op_of}
 use Rattle.command.specs.declared.Answer.{Answer}
 use Rattle.command.specs.declared.Answer.TheVariants.{Names, Value, ReadError, Update, UpdateError, Silent}
-use Rattle.section.specs.declared.RunningSums.{RunningSums}
-use Rattle.section.specs.declared.RunningSums.TheVariants.{Unknown, Known}
+use Rattle.schedule.specs.declared.Sums.{Sums}
 use Rattle.section.specs.Knowing.{running_sums, Knows, kept_after, learnt_from}
 
 -- the same block runs, so the same is known
-knows_same : (m m' : List ℕ) (k : RunningSums) → body m' commit ≡ body m commit → Knows m k → Knows m' k
+knows_same : (m m' : List ℕ) (k : Option Sums) → body m' commit ≡ body m commit → Knows m k → Knows m' k
 unfolding running_sums
-knows_same m m' Unknown e h = tt
-knows_same m m' (Known s) e h = rw e h
+knows_same m m' None e h = tt
+knows_same m m' (Some s) e h = rw e h
 
 -- the name that an operation sets; 0 where it sets none
 abbrev set_name : operation.Op → ℕ
@@ -42,32 +43,32 @@ set_name (selective_unsubscribe n v) = 0
 set_name (delete_entry n v) = 0
 
 -- no other operation than a set of 8001 changes the running block
-knows_step : (p : ℕ) (m : List ℕ) (o : operation.Op) (k : RunningSums) → sound m ≡ true → set_name o ≢ 0x8001 → Knows m k → Knows (step p m o) k
+knows_step : (p : ℕ) (m : List ℕ) (o : operation.Op) (k : Option Sums) → sound m ≡ true → set_name o ≢ 0x8001 → Knows m k → Knows (step p m o) k
 knows_step p m o k s ne h =
     ⊎_elim (λ r. knows_same m (step p m o) k r.block h) (λ r. absurd (ne (ap set_name r.1))) (step-running p m o s)
 
-pub kept_knows : (p : ℕ) (m s : List ℕ) (o : Op) (k : RunningSums) → sound m ≡ true → Knows m k → Knows (step p m (op_of s o)) (kept_after o k)
+pub kept_knows : (p : ℕ) (m s : List ℕ) (o : Op) (k : Option Sums) → sound m ≡ true → Knows m k → Knows (step p m (op_of s o)) (kept_after o k)
 unfolding op_of kept_after
 kept_knows p m s Capabilities k d h = knows_step p m capabilities k d (λ e. omega (arith, e)) h
 kept_knows p m s (Read n) k d h = knows_step p m (read n) k d (λ e. omega (arith, e)) h
-kept_knows p m s (Set n f z) k d h = go (eqb n 0x8001) refl
+kept_knows p m s (Set v) k d h = go (eqb v.name 0x8001) refl
   where
-    go : (b : Bool) → eqb n 0x8001 ≡ b → Knows (step p m (set n (part s f z))) (cond b Unknown k)
+    go : (b : Bool) → eqb v.name 0x8001 ≡ b → Knows (step p m (set v.name (part s v.from v.size))) (cond b None k)
     go true e = tt
-    go false e = knows_step p m (set n (part s f z)) k d (eqb-false n 0x8001 e) h
+    go false e = knows_step p m (set v.name (part s v.from v.size)) k d (eqb-false v.name 0x8001 e) h
 kept_knows p m s (Subscribe n) k d h = knows_step p m (subscribe n) k d (λ e. omega (arith, e)) h
 kept_knows p m s (Unsubscribe n) k d h = knows_step p m (unsubscribe n) k d (λ e. omega (arith, e)) h
-kept_knows p m s (SelectiveRead n f z) k d h = knows_step p m (selective_read n (part s f z)) k d (λ e. omega (arith, e)) h
-kept_knows p m s (SelectiveSubscribe n f z) k d h = knows_step p m (selective_subscribe n (part s f z)) k d (λ e. omega (arith, e)) h
-kept_knows p m s (SelectiveUnsubscribe n f z) k d h = knows_step p m (selective_unsubscribe n (part s f z)) k d (λ e. omega (arith, e)) h
-kept_knows p m s (DeleteEntry n f z) k d h = knows_step p m (delete_entry n (part s f z)) k d (λ e. omega (arith, e)) h
+kept_knows p m s (SelectiveRead v) k d h = knows_step p m (selective_read v.name (part s v.from v.size)) k d (λ e. omega (arith, e)) h
+kept_knows p m s (SelectiveSubscribe v) k d h = knows_step p m (selective_subscribe v.name (part s v.from v.size)) k d (λ e. omega (arith, e)) h
+kept_knows p m s (SelectiveUnsubscribe v) k d h = knows_step p m (selective_unsubscribe v.name (part s v.from v.size)) k d (λ e. omega (arith, e)) h
+kept_knows p m s (DeleteEntry v) k d h = knows_step p m (delete_entry v.name (part s v.from v.size)) k d (λ e. omega (arith, e)) h
 
-pub learnt_knows : (m : List ℕ) (a : Answer) (k : RunningSums) → Knows m k → Knows m (learnt_from m a k)
+pub learnt_knows : (m : List ℕ) (a : Answer) (k : Option Sums) → Knows m k → Knows m (learnt_from m a k)
 unfolding learnt_from
 learnt_knows m Names k h = h
 learnt_knows m (Value p) k h = go (eqb p commit)
   where
-    go : (b : Bool) → Knows m (cond b (Known (running_sums m)) k)
+    go : (b : Bool) → Knows m (cond b (Some (running_sums m)) k)
     go true = refl
     go false = h
 learnt_knows m (ReadError c) k h = h
@@ -77,19 +78,19 @@ learnt_knows m Silent k h = h
 
 -- ---- what is kept and learnt, by the code's branches
 
-pub kept_other : (o : Op) (k : RunningSums) → ((n f z : ℕ) → o ≡ Set n f z → ⊥) → k ≡ kept_after o k
+pub kept_other : (o : Op) (k : Option Sums) → ((v : NamedValue) → o ≡ Set v → ⊥) → k ≡ kept_after o k
 unfolding kept_after
 kept_other Capabilities k t = refl
 kept_other (Read n) k t = refl
-kept_other (Set n f z) k t = absurd (t n f z refl)
+kept_other (Set v) k t = absurd (t v refl)
 kept_other (Subscribe n) k t = refl
 kept_other (Unsubscribe n) k t = refl
-kept_other (SelectiveRead n f z) k t = refl
-kept_other (SelectiveSubscribe n f z) k t = refl
-kept_other (SelectiveUnsubscribe n f z) k t = refl
-kept_other (DeleteEntry n f z) k t = refl
+kept_other (SelectiveRead v) k t = refl
+kept_other (SelectiveSubscribe v) k t = refl
+kept_other (SelectiveUnsubscribe v) k t = refl
+kept_other (DeleteEntry v) k t = refl
 
-pub learnt_other : (m : List ℕ) (a : Answer) (k : RunningSums) → ((p : ℕ) → a ≡ Value p → ⊥) → k ≡ learnt_from m a k
+pub learnt_other : (m : List ℕ) (a : Answer) (k : Option Sums) → ((p : ℕ) → a ≡ Value p → ⊥) → k ≡ learnt_from m a k
 unfolding learnt_from
 learnt_other m Names k t = refl
 learnt_other m (Value p) k t = absurd (t p refl)

@@ -5,16 +5,18 @@ use native.Mathlib.Nat.{add-zero, add-suc, sub-zero}
 use native.Mathlib.Decide.{dec_le}
 use mathlib.Core.Path.{◌≡◌, refl, sym, ap}
 use mathlib.Core.Bool.{Bool, true, false, ◌&&◌, ◌||◌, not, cond, and-true, and_assoc, and_comm}
-use mathlib.Core.List.{List}
+use mathlib.Core.List.{List, ◌∷◌}
 use lib.ListN.{length, take}
 use lib.Seq.{length-take-le}
 use lib.Dec.{eqb, leb, ltb}
-use borrow.Author.Tests.{eq-eqb, leb-true, le-leb, le-ltb}
+use borrow.Author.Tests.{eq-eqb, ne_eqb, leb-true, le-leb, le-ltb}
+use Rattle.std.specs.Prelude.{◌≢◌}
 use Rattle.meaning.specs.Octets.{octet, at16, every, below, implies}
 use Rattle.meaning.specs.Table.{Row, row_at, by_port, entry_count, admin_control_list, supported_list_max, commit}
 use Rattle.meaning.specs.Block.{permits}
 use Rattle.meaning.specs.Memory.{cell, room, is_present, is_subscribed, is_pending, is_in_flight, size, subscribed, body, waiting, entry_sound, entries_sound, sound}
-use Rattle.meaning.specs.Profile.{release16, is_release16, bounded}
+use Rattle.meaning.specs.Profile.{release16, is_release16, is_profile, bounded, sound_in}
+use Rattle.meaning.specs.FormB.{in_form_b, sound_form_b}
 use Rattle.meaning.proofs.Tests.{every_at, below_at}
 use Rattle.soundness.specs.Fields.{cell_sound, fields_sound, fields_at, tail_at, all_fields, all_tails, across_sound}
 
@@ -111,6 +113,20 @@ sound_parts m h =
       below_both (fields_at m) (tail_at m) entry_count,
     )
     (simp and_assoc)
+
+-- octets of another length are not sound, in neither form
+pub another-length : (m : List ℕ) → length m ≢ 2100 → false ≡ sound m
+unfolding sound every
+another-length m h = rw (ne_eqb (length m) 2100 h)
+
+pub another-form : (b : List ℕ) → length b ≢ 2101 → false ≡ sound_form_b b
+unfolding sound_form_b in_form_b
+another-form b h = rw (ne_eqb (length b) 2101 h)
+
+-- form B, tested of the octet ahead and of the memory behind it
+pub form_tests : (p : ℕ) (m : List ℕ) → length m ≡ 2100 → (is_profile p && (sound m && bounded p m)) ≡ sound_form_b (p ∷ m)
+unfolding sound_form_b in_form_b sound_in
+form_tests p m h = rw (eq-eqb (suc (length m)) 2101 (omega (arith, h)))
 
 -- where all entries hold what they must, no length passes its room
 pub fields_fit : (m : List ℕ) → all_fields m ≡ true → (k : ℕ) → k < 19 → size (cell m k) ≤ (row_at k).most

@@ -14,7 +14,8 @@ use Rattle.meaning.specs.Octets.{part, blank, below}
 use Rattle.meaning.specs.Table.{rows, row_at, rooms, room_at}
 use Rattle.meaning.specs.Memory.{cell, room, size}
 use Rattle.meaning.proofs.Tests.{below_at}
-use Rattle.soundness.specs.declared.Gap.{Gap}
+use Rattle.std.specs.Prelude.{Option, Some, None}
+use Rattle.std.specs.Bool.{then_some}
 use Rattle.soundness.specs.Fields.{tail_at, gap_at}
 
 -- ---- rooms follow each other
@@ -69,17 +70,19 @@ module _ (m : List ℕ) (k end : ℕ) (h : k < 19) (e : end ≤ room_at k) where
       let n : room_at (k + 1) - (room_at k + j) ≡ (row_at k).most - j = omega (arith, room_next k h) in
       rw n (ap blank (sym (drop-part m (room_at k) (row_at k).most j)))
 
-  -- what was looked at and what is looked at next, up to the next room, are the octets before this room and this one's tail
-  pub gap_joins : size (cell m k) ≤ (row_at k).most
-      → (((gap_at m k end).blank && blank (part m (gap_at m k end).end (room_at (k + 1) - (gap_at m k end).end))) ≡ (blank (part m end (room_at k - end)) && tail_at m k))
-      × ((gap_at m k end).end ≤ room_at (k + 1))
-  unfolding gap_at
-  gap_joins l = go (eqb (size (cell m k)) 0) refl
-    where
-      grown : Bool → Gap
-      grown b = cond b (record { blank = true; end = end }) (record { blank = blank (part m end (room_at k - end)); end = room_at k + size (cell m k) })
+  -- the next ones start where what is looked at then, up to the next room, is with what was looked at the octets before this room and
+  -- this one's tail; where no next ones do, one of these is not blank
+  unfoldable pub Goes-on : Option ℕ → Type 0
+  Goes-on (Some next) =
+      (blank (part m next (room_at (k + 1) - next)) ≡ (blank (part m end (room_at k - end)) && tail_at m k)) × (next ≤ room_at (k + 1))
+  Goes-on None = (blank (part m end (room_at k - end)) && tail_at m k) ≡ false
 
-      go : (b : Bool) → eqb (size (cell m k)) 0 ≡ b
-          → (((grown b).blank && blank (part m (grown b).end (room_at (k + 1) - (grown b).end))) ≡ (blank (part m end (room_at k - end)) && tail_at m k)) × ((grown b).end ≤ room_at (k + 1))
-      go true z = (gap_grows (eqb-true (size (cell m k)) 0 z), omega (arith, room_next k h, e))
-      go false z = (ap (λ (t : Bool). blank (part m end (room_at k - end)) && t) gap_ends, omega (arith, room_next k h, l))
+  pub gap_joins : size (cell m k) ≤ (row_at k).most → Goes-on (gap_at m k end)
+  unfolding gap_at Goes-on
+  gap_joins l = go (eqb (size (cell m k)) 0) (blank (part m end (room_at k - end))) refl refl
+    where
+      go : (b c : Bool) → eqb (size (cell m k)) 0 ≡ b → blank (part m end (room_at k - end)) ≡ c
+          → Goes-on (cond b (Some end) (then_some c (room_at k + size (cell m k))))
+      go true c z _ = (gap_grows (eqb-true (size (cell m k)) 0 z), omega (arith, room_next k h, e))
+      go false true z y = (gap_ends ∙ rw y, omega (arith, room_next k h, l))
+      go false false z y = rw y

@@ -1,10 +1,10 @@
 -- The test of sound memory in three parts: what the entries hold, that the octets past each length are zero, what is asked across entries.
-use Rattle.std.specs.Prelude.{ℕ, ◌+◌, ◌-◌, Bool, true, ◌&&◌, cond, List, [], ◌∷◌, take, drop, eqb, leb, ltb}
+use Rattle.std.specs.Prelude.{Option, Some, ℕ, ◌+◌, ◌-◌, Bool, ◌&&◌, cond, List, [], ◌∷◌, take, drop, eqb, leb, ltb}
+use Rattle.std.specs.Bool.{then_some}
 use Rattle.meaning.specs.Octets.{octet, at16, part, blank, every, below, implies}
 use Rattle.meaning.specs.Table.{Row, row_at, room_at, by_port, entry_count, gate_enabled, supported_list_max, commit}
 use Rattle.meaning.specs.Block.{permits}
 use Rattle.meaning.specs.Memory.{cell, room, is_present, is_subscribed, is_pending, is_in_flight, size, flag_limit, present, timer, waiting, four_present, timer_sound}
-use Rattle.soundness.specs.declared.Gap.{Gap}
 
 -- name, zero octet, flags, marks, in memory that waits or does not
 unfoldable pub cell_sound : Bool → Row → List ℕ → Bool
@@ -28,12 +28,12 @@ fields_at m k = fields_sound (waiting m) (row_at k) (cell m k) (room m k)
 unfoldable pub tail_at : List ℕ → ℕ → Bool
 tail_at m k = blank (drop (size (cell m k)) (room m k))
 
--- the octets between the value before an entry, which ends at `end`, and its own: where it has none they go on, else they are looked at
--- and the next ones start behind it
-unfoldable pub gap_at : List ℕ → ℕ → ℕ → Gap
+-- the octets between the value before an entry, which ends at `end`, and its own: where it has none they go on, else the next ones start
+-- behind it, if these are blank
+unfoldable pub gap_at : List ℕ → ℕ → ℕ → Option ℕ
 gap_at m k end =
     let n = size (cell m k) in
-    cond (eqb n 0) (record { blank = true; end = end }) (record { blank = blank (part m end (room_at k - end)); end = room_at k + n })
+    cond (eqb n 0) (Some end) (then_some (blank (part m end (room_at k - end))) (room_at k + n))
 
 unfoldable pub all_fields : List ℕ → Bool
 all_fields m = below entry_count (fields_at m)

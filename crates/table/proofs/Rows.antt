@@ -10,7 +10,7 @@ use lib.Seq.{take_all}
 use lib.Dec.{eqb, leb, ltb}
 use borrow.Author.Tests.{ne_eqb, eqb-true, eq-eqb, leb-true, le-leb, ltb-true, ltb-false}
 use Rattle.meaning.specs.Table as table
-use Rattle.meaning.specs.Table.{controller, port, nobody, free, within, time, entries, ratio, running, rows, row_at, rooms, room_at}
+use Rattle.meaning.specs.Table.{controller, port, nobody, free, within, time, entries, ratio, running, rows, row_at, rooms, room_at, by_controller, by_port}
 use Rattle.meaning.specs.Octets.{below}
 use Rattle.meaning.proofs.Tests.{and_left, and_right, below_at}
 use Rattle.schedule.specs.Rules.{rule_of, asked}
@@ -18,6 +18,8 @@ use Rattle.schedule.specs.declared.Rule.{Rule}
 use Rattle.schedule.specs.declared.Rule.TheVariants.{Free, Within, Time, Entries, Ratio, Running}
 use Rattle.table.specs.Rows.{owner_of, row_of}
 use Rattle.table.specs.declared.Row.{Row}
+use denote.Enum.Bare.{sameb}
+use Rattle.table.specs.contracts.Owner.{the_type}
 use Rattle.table.specs.declared.Owner.{Owner}
 use Rattle.table.specs.declared.Owner.TheVariants.{Controller, Port, Nobody}
 
@@ -46,6 +48,19 @@ module _ (r : Row) (x : table.Row) (e : row_of r ≡ x) where
   pub rule_is : rule_of r.rule ≡ x.rule
   unfolding row_of
   rule_is = ap (λ (t : table.Row). t.rule) e
+
+-- comparing an owner asks what the definitions ask
+pub set_by_controller : (o : Owner) → sameb the_type o Controller ≡ by_controller (owner_of o)
+unfolding by_controller owner_of
+set_by_controller Controller = refl
+set_by_controller Port = refl
+set_by_controller Nobody = refl
+
+pub set_by_port : (o : Owner) → sameb the_type o Port ≡ by_port (owner_of o)
+unfolding by_port owner_of
+set_by_port Controller = refl
+set_by_port Port = refl
+set_by_port Nobody = refl
 
 -- so a row of the definitions and a start are one row of the code
 abbrev owner_back : table.Owner → Owner
@@ -89,7 +104,7 @@ one_row r q e s = sym (row_back_lem r) ∙ ap₂ row_back e s ∙ row_back_lem q
 pub arm : (j k : ℕ) (r : Row) (x : table.Row) {s : ℕ} → k ≡ j → row_of r ≡ x → r.start ≡ s → x ≡ row_at j → s ≡ room_at j → s + x.most ≤ 2100 → IsRow r k
 arm j k r x e p q y z h = (p ∙ y ∙ ap row_at (sym e), q ∙ z ∙ ap room_at (sym e), omega (arith, most_is r x p, q, h))
 
-row_past : (k : ℕ) → 19 ≤ k → row_at k ≡ table.row 0 0 0 nobody free
+pub row_past : (k : ℕ) → 19 ≤ k → row_at k ≡ table.row 0 0 0 nobody free
 unfolding row_at rows
 row_past k h = get_or-eq_default rows (table.row 0 0 0 nobody free) h
 

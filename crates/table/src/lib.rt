@@ -4,13 +4,15 @@
 #![tactic(auto)]
 
 ghost use Rattle.std.specs.Prelude.{◌+◌, ◌≤◌, ◌≡◌};
-ghost use Rattle.meaning.specs.Table.{memory_length, row, row_at, room_at, place, by_controller, by_port};
+ghost use Rattle.meaning.specs.Table.{memory_length, row, row_at, room_at, place};
 ghost use Rattle.meaning.specs.Block.{permits};
 ghost use Rattle.meaning.specs.Profile.{is_profile, lists, spared, cause_absent};
+ghost use Rattle.wire.specs.Causes.{octet_of};
 ghost use Rattle.schedule.specs.Rules.{rule_of};
 ghost use Rattle.table.specs.Rows.{row_of, owner_of};
 
 use schedule::Rule;
+use wire::Cause;
 
 // Where things stand in port memory: 19 cells of 6 octets, the timer's two octets, the bodies.
 pub const ENTRY_COUNT: usize = 19;
@@ -24,6 +26,11 @@ pub const EXPIRIES_AT: usize = 115;
 pub const BODIES_AT: usize = 116;
 
 pub const MEMORY_LENGTH: usize = 2100;
+
+// A cell, and the whole of port memory.
+pub type Cell = [u8; CELL_LENGTH];
+
+pub type Memory = [u8; MEMORY_LENGTH];
 
 // Form B, in which memory is kept and lent: where its profile stands, where the memory behind it starts, and the octets in all.
 pub const PROFILE_AT: usize = 0;
@@ -39,7 +46,16 @@ pub const ZERO_AT: usize = 3;
 
 pub const SIZE_AT: usize = 4;
 
-// The flags, each a bit, and the first octet that has another bit.
+// The flags of an entry, by name.
+#[derive(Clone, Copy)]
+pub enum Flag {
+    Present,
+    Subscribed,
+    Pending,
+    InFlight,
+}
+
+// Each as a bit, and the first octet that has another bit.
 pub const PRESENT: u8 = 1;
 
 pub const SUBSCRIBED: u8 = 2;
@@ -89,7 +105,7 @@ pub const CYCLE_LENGTH: usize = 8;
 const COUNT_SPARED: usize = 2;
 
 // Who sets a parameter.
-#[derive(Clone, Copy)]
+#[derive(Clone, Copy, PartialEq, Eq)]
 pub enum Owner {
     Controller,
     Port,
@@ -107,7 +123,7 @@ pub struct Row {
     pub rule: Rule,
 }
 
-// A row from its fields, one line of the table.
+// A row from its fields, so that each row is one line of the table: a struct literal takes eight.
 fn as_row(name: usize, least: usize, most: usize, start: usize, owner: Owner, rule: Rule) -> Row
     ensures { (row_of result ≡ row name least most (owner_of owner) (rule_of rule)) × (result.start ≡ start) }
 {
@@ -157,7 +173,8 @@ pub fn row_at(k: usize) -> Row
     }
 }
 
-// The place of a name in the table, 19 where it has none.
+// The place of a name in the table, 19 where it has none: as definition `place` has it, so that callers look up a row that nobody sets and
+// need no branch.
 pub fn place_of(name: usize) -> usize
     ensures { result ≡ place name }
 {
@@ -185,28 +202,6 @@ pub fn place_of(name: usize) -> usize
     }
 }
 
-// Whether the controller sets it, by a set.
-pub fn by_controller(owner: Owner) -> bool
-    ensures { result ≡ by_controller (owner_of owner) }
-{
-    match owner {
-        Owner::Controller => true,
-        Owner::Port => false,
-        Owner::Nobody => false,
-    }
-}
-
-// Whether the port sets it, by a local value.
-pub fn by_port(owner: Owner) -> bool
-    ensures { result ≡ by_port (owner_of owner) }
-{
-    match owner {
-        Owner::Controller => false,
-        Owner::Port => true,
-        Owner::Nobody => false,
-    }
-}
-
 // Whether a value is one that the row at a place permits: its length, and its rule.
 pub fn permits(k: usize, v: &[u8]) -> bool
     ensures { result ≡ permits (row_at k) v.now }
@@ -219,8 +214,7 @@ pub fn permits(k: usize, v: &[u8]) -> bool
     if row.most < n {
         return false;
     }
-    let rule = row.rule;
-    schedule::keeps(rule, v)
+    schedule::keeps(row.rule, v)
 }
 
 // ---- what a profile makes of it (RULES 24)
@@ -251,12 +245,12 @@ pub fn spared(profile: u8, k: usize) -> usize
 }
 
 // The cause of an absent value.
-pub fn absent_cause(profile: u8) -> u8
-    ensures { result ≡ cause_absent profile }
+pub fn absent_cause(profile: u8) -> Cause
+    ensures { octet_of result ≡ cause_absent profile }
 {
     if profile == wire::RELEASE_16 {
-        wire::CAUSE_PROTOCOL_ERROR
+        Cause::ProtocolError
     } else {
-        wire::CAUSE_UNAVAILABLE
+        Cause::Unavailable
     }
 }

@@ -1,13 +1,11 @@
 -- The loop that takes a tally: what is known before each turn, and what a turn adds.
 use Prim.Native.Nat.{ℕ, ◌+◌, ◌*◌, ◌≤◌}
 use native.Mathlib.Omega.{arith}
-use types.Run.{OneOf}
-use mathlib.Core.Path.{◌≡◌, sym, ap, ◌∙◌}
+use mathlib.Core.Path.{◌≡◌, sym, ap, ap₂, ◌∙◌}
 use mathlib.Core.Bool.{Bool, true, false, ◌||◌, cond, or_assoc, or-false}
 use mathlib.Core.List.{List, [], ◌∷◌}
 use lib.Dec.{leb}
 use lib.ListN.{length}
-use denote.Enum.Declared.{tag_of}
 use Rattle.meaning.specs.Octets.{be16, part, flat}
 use Rattle.meaning.specs.Memory.{sound}
 use Rattle.meaning.specs.Operation.{parse, is_some}
@@ -15,18 +13,17 @@ use Rattle.meaning.specs.Step.{step, answer, answers, after, shown}
 use Rattle.meaning.specs.Reply.{kinds, held, record_of, gathered, failed_octets}
 use Rattle.meaning.specs.Calls.{records}
 use Rattle.meaning.proofs.Lists.{length_part}
+use Rattle.wire.specs.Causes.{octet_of}
 use Rattle.operation.specs.declared.Op.{Op}
-use Rattle.operation.specs.declared.Handed.{Handed}
-use Rattle.operation.specs.declared.Handed.TheVariants.{Operation}
-use Rattle.operation.specs.Handing.{op_of, name_of, from_of, size_of, Inside}
-use Rattle.operation.specs.contracts.Handed.{the_type}
-use Rattle.operation.proofs.Turns.{HandsOut, inside-value}
+use Rattle.operation.specs.Handing.{op_of, name_of, from_of, size_of, Inside, Handed, handed}
+use Rattle.operation.proofs.Turns.{HandsOut, NoOperation, inside-value}
 use Rattle.command.specs.declared.Answer.{Answer}
 use Rattle.command.specs.declared.Answer.TheVariants.{Names, Value, ReadError, Update, UpdateError, Silent}
 use Rattle.command.specs.Answers.{answer_of, InTable, told, may_change, any_change}
 use Rattle.command.proofs.Shown.{shown-short}
 use Rattle.command.proofs.Told.{told_back}
 use Rattle.command.proofs.Walk.{Under, rest, under_start, under_end, under_ahead, under_rest, under_turn}
+use Rattle.tally.specs.declared.Count.{Count}
 use Rattle.tally.specs.declared.Tally.{Tally}
 use Rattle.tally.specs.Tallies.{plus, no_count, no_tally, tally_of, tallied, Small, Below}
 use Rattle.tally.proofs.Plus.{held-octets, short-octets, Light, plus-joined, plus-below, below_more, silent_added, tallied_is}
@@ -56,7 +53,7 @@ told_light p m s o (Value k) h i t =
       long_updates = none_light;
     }
 told_light p m s o (ReadError c) h i t =
-    record { values = none_light; read_errors = failed_light (name_of o) c; updates = none_light; update_errors = none_light; long_updates = none_light }
+    record { values = none_light; read_errors = failed_light (name_of o) (octet_of c); updates = none_light; update_errors = none_light; long_updates = none_light }
 told_light p m s o Update h i t = go (leb (length v) 255)
   where
     v : List ℕ
@@ -71,7 +68,7 @@ told_light p m s o Update h i t = go (leb (length v) 255)
     go false =
         record { values = none_light; read_errors = none_light; updates = none_light; update_errors = none_light; long_updates = (omega arith, omega (arith, held-octets (name_of o) v, l)) }
 told_light p m s o (UpdateError c) h i t =
-    record { values = none_light; read_errors = none_light; updates = none_light; update_errors = failed_light (name_of o) c; long_updates = none_light }
+    record { values = none_light; read_errors = none_light; updates = none_light; update_errors = failed_light (name_of o) (octet_of c); long_updates = none_light }
 told_light p m s o Silent h i t = record { values = none_light; read_errors = none_light; updates = none_light; update_errors = none_light; long_updates = none_light }
 
 -- ---- the loop
@@ -83,13 +80,27 @@ pub record Counting (p : ℕ) (m list copy : List ℕ) (t : Tally) (changed : Bo
   pub flagged : (changed || any_change (answers p copy (rest p list at))) ≡ any_change (answers p m (rest p list 0))
   pub small : Below (4096 * at) t
 
+-- a tally of zeros
+zero_count : (c : Count) → (c.count ≡ 0) × (c.octets ≡ 0) → c ≡ no_count
+zero_count c e = ap₂ (λ (n k : ℕ). record { count = n; octets = k }) e.0 e.1
+
+abbrev Zero : Count → Type 0
+Zero c = (c.count ≡ 0) × (c.octets ≡ 0)
+
+pub zero_tally : (t : Tally) → (t.capabilities ≡ false) × (Zero t.values × (Zero t.read_errors × (Zero t.updates × (Zero t.update_errors × Zero t.long_updates)))) → t ≡ no_tally
+zero_tally t z = go t.capabilities t.values t.read_errors t.updates t.update_errors t.long_updates z
+  where
+    go : (b : Bool) (v e u f l : Count) → (b ≡ false) × (Zero v × (Zero e × (Zero u × (Zero f × Zero l))))
+        → record { capabilities = b; values = v; read_errors = e; updates = u; update_errors = f; long_updates = l } ≡ no_tally
+    go b v e u f l h = rw (h.0, zero_count v h.1.0, zero_count e h.1.1.0, zero_count u h.1.1.1.0, zero_count f h.1.1.1.1.0, zero_count l h.1.1.1.1.1)
+
 pub counting_start : (p : ℕ) (m list copy : List ℕ) → sound m ≡ true → is_some (parse p list) ≡ true → copy ≡ m → Counting p m list copy no_tally false 0
 unfolding tally_of
 counting_start p m list copy s w e =
     record { under = under_start p m list copy s w e; leads = rw e; flagged = rw e; small = (none_small, none_small, none_small, none_small, none_small) }
 
 module _ (p : ℕ) (m list copy : List ℕ) (t : Tally) (changed : Bool) (at : ℕ) (u : Counting p m list copy t changed at) (h : Handed) (hands : HandsOut p list at h) where
-  pub counting_end : length list ≤ 2048 → OneOf (1 ∷ 2 ∷ []) (tag_of the_type h)
+  pub counting_end : length list ≤ 2048 → NoOperation h
       → (t ≡ tally_of (records p m (rest p list 0))) × Below 16777216 t × (copy ≡ after p m (rest p list 0)) × (changed ≡ any_change (answers p m (rest p list 0)))
   unfolding records gathered answers any_change
   counting_end long k =
@@ -100,7 +111,7 @@ module _ (p : ℕ) (m list copy : List ℕ) (t : Tally) (changed : Bool) (at : �
         sym (or-false changed) ∙ rw e.0 at u.flagged,
       )
 
-  pub counting_turn : (o : Op) (next : ℕ) → h ≡ Operation o next → length list ≤ 2048 → (copy' : List ℕ) (a : Answer) (t' : Tally) (b : Bool)
+  pub counting_turn : (o : Op) (next : ℕ) → h ≡ handed o next → length list ≤ 2048 → (copy' : List ℕ) (a : Answer) (t' : Tally) (b : Bool)
       → copy' ≡ step p copy (op_of list o) → a ≡ told (answer p copy (op_of list o)) → t' ≡ tallied p copy' t o a → b ≡ may_change a
       → Counting p m list copy' t' (changed || b) next
   unfolding records gathered answers any_change

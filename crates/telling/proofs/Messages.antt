@@ -10,6 +10,7 @@ use mathlib.Core.Option.{Option, none, some}
 use lib.ListN.{length, length-append, length-map}
 use lib.Dec.{eqb, leb, ltb}
 use borrow.Author.Tests.{leb-true, ne_eqb}
+use Rattle.std.specs.Prelude.{Ok, Err}
 use Rattle.meaning.specs.Octets.{be16, flat}
 use Rattle.meaning.specs.Checks.{when_passed}
 use Rattle.meaning.specs.Reply.{Held, Failed, held_octets, short_octets, failed_octets}
@@ -24,9 +25,9 @@ use Rattle.meaning.proofs.Skipped.{first_unless_higher}
 use Rattle.meaning.proofs.SpeltContents.{NamesSpelt, CountedSpelt, StatusSpelt, LongsSpelt, ResultSpelt}
 use Rattle.meaning.proofs.Accepts.{OfElement, Spelt, reply, notification, accepted_spelt}
 use Rattle.octets.specs.Letters.{letters}
-use Rattle.capture.specs.Handing.{number_of, handed_at, handed_first}
-use Rattle.capture.specs.declared.Handed.{Handed}
-use Rattle.capture.specs.declared.Handed.TheVariants.{Record, End, MessageEmpty, MessageTooLong, TypeUnknown, CutShort}
+use Rattle.capture.specs.Handing.{Handed, refusal_number, number_of, handed_at, handed_first}
+use Rattle.capture.specs.declared.Refusal.{Refusal}
+use Rattle.capture.specs.declared.Refusal.TheVariants.{MessageEmpty, MessageTooLong, TypeUnknown, CutShort}
 use Rattle.capture.proofs.ToTheEnd.{to_the_end, first_holds}
 use Rattle.text.specs.Lines.{line}
 use Rattle.words.specs.Lines.{record_line, record_size, complete_line, notify_line, message_lines}
@@ -35,14 +36,19 @@ use Rattle.telling.proofs.Records.{Onward, onward}
 
 -- ---- the number
 
-pub number_small : (h : Handed) → number_of h < 100
+-- of a refusal
+pub number_small : (e : Refusal) → (1 ≤ refusal_number e) × (refusal_number e < 100)
+unfolding refusal_number
+number_small MessageEmpty = (omega arith, omega arith)
+number_small MessageTooLong = (omega arith, omega arith)
+number_small TypeUnknown = (omega arith, omega arith)
+number_small CutShort = (omega arith, omega arith)
+
+-- of what is no refusal
+pub accepted_number : (h : Handed) → ((e : Refusal) → h ≡ Err e → ⊥) → number_of h ≡ 0
 unfolding number_of
-number_small (Record r c) = omega arith
-number_small End = omega arith
-number_small MessageEmpty = omega arith
-number_small MessageTooLong = omega arith
-number_small TypeUnknown = omega arith
-number_small CutShort = omega arith
+accepted_number (Ok h) t = refl
+accepted_number (Err e) t = absurd (t e refl)
 
 pub refused-lines : (s : List ℕ) (n : ℕ) → n ≡ (capture s).number → (n ≡ 0 → ⊥) → line n [] ≡ message_lines s
 unfolding message_lines

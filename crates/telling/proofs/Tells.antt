@@ -6,12 +6,16 @@ use mathlib.Core.List.{List}
 use lib.ListN.{length}
 use borrow.Author.Tests.{eq-eqb, ne_eqb}
 use Rattle.meaning.specs.Octets.{octet}
-use Rattle.meaning.proofs.Lists.{length_part}
+use Rattle.octets.specs.Letters.{letters}
+use Rattle.contents.specs.Spans.{octets_of}
+use Rattle.contents.specs.declared.Span.{Span}
 use Rattle.capture.specs.Handing.{record_of, Inside}
 use Rattle.capture.specs.declared.Record.{Record}
 use Rattle.capture.specs.declared.Record.TheVariants.{Name, Value, ReadError, Update, UpdateError, LongUpdate}
 use Rattle.meaning.specs.Capture.{is_reply}
-use Rattle.words.specs.Lines.{record_size, complete_line, notify_line}
+use Rattle.words.specs.declared.Valued.TheVariants as valued
+use Rattle.words.specs.declared.Failing.TheVariants as failing
+use Rattle.words.specs.Lines.{record_size, valued_word, failing_word, complete_line, notify_line}
 use Rattle.telling.specs.Remaining.{head_line}
 
 module _ (s : List ℕ) (t : Record) (at len : ℕ) (i : Inside s t) (h : at + 24 * record_size (record_of s t) ≤ len) where
@@ -25,35 +29,35 @@ module _ (s : List ℕ) (t : Record) (at len : ℕ) (i : Inside s t) (h : at + 2
   unfolding record_size record_of
   name-room n e = omega (arith, (asked (Name n) e).1)
 
-  pub read_error_room : (n c : ℕ) → t ≡ ReadError n c → at + 66 ≤ len
-  unfolding record_size record_of
+  pub read_error_room : (n c : ℕ) → t ≡ ReadError n c → at + (length (failing_word failing.ReadError) + 53) ≤ len
+  unfolding record_size record_of failing_word letters
   read_error_room n c e = omega (arith, (asked (ReadError n c) e).1)
 
-  pub update_error_room : (n c : ℕ) → t ≡ UpdateError n c → at + 68 ≤ len
-  unfolding record_size record_of
+  pub update_error_room : (n c : ℕ) → t ≡ UpdateError n c → at + (length (failing_word failing.UpdateError) + 53) ≤ len
+  unfolding record_size record_of failing_word letters
   update_error_room n c e = omega (arith, (asked (UpdateError n c) e).1)
 
-  module _ (n from size : ℕ) where
-    pub value-inside : t ≡ Value n from size → from + size ≤ length s
-    value-inside e = (asked (Value n from size) e).0
+  module _ (n : ℕ) (p : Span) where
+    pub value-inside : t ≡ Value n p → (p.from ≤ p.to) × (p.to ≤ length s)
+    value-inside e = (asked (Value n p) e).0
 
-    pub update-inside : t ≡ Update n from size → from + size ≤ length s
-    update-inside e = (asked (Update n from size) e).0
+    pub update-inside : t ≡ Update n p → (p.from ≤ p.to) × (p.to ≤ length s)
+    update-inside e = (asked (Update n p) e).0
 
-    pub long-inside : t ≡ LongUpdate n from size → from + size ≤ length s
-    long-inside e = (asked (LongUpdate n from size) e).0
+    pub long-inside : t ≡ LongUpdate n p → (p.from ≤ p.to) × (p.to ≤ length s)
+    long-inside e = (asked (LongUpdate n p) e).0
 
-    pub value_room : t ≡ Value n from size → at + (size + size + 45) ≤ len
-    unfolding record_size record_of
-    value_room e = omega (arith, (asked (Value n from size) e).1, length_part s from size (value-inside e))
+    pub value_room : t ≡ Value n p → at + (length (valued_word valued.Value) + (length (octets_of s p) + length (octets_of s p) + 37)) ≤ len
+    unfolding record_size record_of valued_word letters
+    value_room e = omega (arith, (asked (Value n p) e).1)
 
-    pub update-room : t ≡ Update n from size → at + (size + size + 46) ≤ len
-    unfolding record_size record_of
-    update-room e = omega (arith, (asked (Update n from size) e).1, length_part s from size (update-inside e))
+    pub update-room : t ≡ Update n p → at + (length (valued_word valued.Update) + (length (octets_of s p) + length (octets_of s p) + 37)) ≤ len
+    unfolding record_size record_of valued_word letters
+    update-room e = omega (arith, (asked (Update n p) e).1)
 
-    pub long-room : t ≡ LongUpdate n from size → at + (size + size + 51) ≤ len
-    unfolding record_size record_of
-    long-room e = omega (arith, (asked (LongUpdate n from size) e).1, length_part s from size (long-inside e))
+    pub long-room : t ≡ LongUpdate n p → at + (length (valued_word valued.LongUpdate) + (length (octets_of s p) + length (octets_of s p) + 37)) ≤ len
+    unfolding record_size record_of valued_word letters
+    long-room e = omega (arith, (asked (LongUpdate n p) e).1)
 
 -- ---- the first line
 

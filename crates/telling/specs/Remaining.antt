@@ -1,13 +1,11 @@
 -- The records that are left to be told: what has been handed out, and what its cursor holds behind it.
-use Rattle.std.specs.Prelude.{ℕ, ◌+◌, cond, List, [], ◌∷◌}
+use Rattle.std.specs.Prelude.{ℕ, ◌+◌, cond, List, [], ◌∷◌, Some, None, Ok, Err}
 use Rattle.std.proofs.Math.Option.{Option, none, some}
 use Rattle.meaning.specs.Capture.{Capture, capturing, OneRecord, in_order, front_name, front_held, front_failed, read_cause, update_cause, until_end, is_reply}
 use Rattle.contents.specs.Spans.{octets_of}
-use Rattle.capture.specs.Handing.{record_of, Inside}
+use Rattle.capture.specs.Handing.{Handed, record_of, Inside}
 use Rattle.capture.proofs.FromCursor.{Holds}
 use Rattle.capture.specs.declared.Cursor.{Cursor}
-use Rattle.capture.specs.declared.Handed.{Handed}
-use Rattle.capture.specs.declared.Handed.TheVariants.{Record, End, MessageEmpty, MessageTooLong, TypeUnknown, CutShort}
 use Rattle.words.specs.Lines.{complete_line, notify_line, record_size}
 
 unfoldable pub head_line : List ℕ → List ℕ
@@ -34,18 +32,12 @@ held s c =
     (or_none (until_end (front_held 2) (octets_of s c.long_updates)))
 
 unfoldable pub remaining : List ℕ → Handed → List OneRecord
-remaining s (Record r c) = record_of s r ∷ in_order (held s c)
-remaining s End = []
-remaining s MessageEmpty = []
-remaining s MessageTooLong = []
-remaining s TypeUnknown = []
-remaining s CutShort = []
+remaining s (Ok (Some h)) = record_of s h.0 ∷ in_order (held s h.1)
+remaining s (Ok None) = []
+remaining s (Err e) = []
 
 -- a record that lies in the message, with whole records behind it; or the end
 abbrev pub Ready : List ℕ → Handed → Type 0
-Ready s (Record r c) = Inside s r × Holds s c (held s c)
-Ready s End = Unit {0}
-Ready s MessageEmpty = Unit {0}
-Ready s MessageTooLong = Unit {0}
-Ready s TypeUnknown = Unit {0}
-Ready s CutShort = Unit {0}
+Ready s (Ok (Some h)) = Inside s h.0 × Holds s h.1 (held s h.1)
+Ready s (Ok None) = Unit {0}
+Ready s (Err e) = Unit {0}

@@ -2,17 +2,15 @@
 use Prim.Native.Nat.{ℕ, zero, suc, ◌+◌, ◌-◌, ◌*◌, ◌/◌, ◌%◌, ◌^◌, ◌≤◌, ◌<◌}
 use native.Mathlib.Nat.{pow-zero, pow-suc, one-le-pow, pow-le-pow_right}
 use native.Mathlib.Omega.{arith}
-use mathlib.Core.Path.{◌≡◌, refl}
+use mathlib.Core.Path.{◌≡◌, refl, sym, ap, ◌∙◌}
 use mathlib.Core.Bool.{Bool, true, false, cond}
 use mathlib.Core.List.{List, [], ◌∷◌, ◌++◌, map, append_assoc}
-use lib.ListN.{length, length-append}
+use lib.ListN.{length, take, length-append}
 use lib.Dec.{ltb, lit<}
 use borrow.Author.Tests.{ltb-true, ltb-false, lt-ltb, le-ltb}
 use Rattle.io.specs.Digits.{last_digits, IsDigitCount}
-use Rattle.meaning.specs.Octets.{splice}
-use Rattle.octets.proofs.Splices.{then}
-use Rattle.text.specs.Lines.{digit, field, digits_in, wide_decimal, wide_field, octet_field, open_line}
-use Rattle.text.proofs.Writes.{hex-length, field-short}
+use Rattle.text.specs.Lines.{digit, decimal, long_decimal, octets_line, line, lent_line, field, digits_in, wide_decimal, wide_field, octet_field, open_line}
+use Rattle.text.proofs.Writes.{hex-length, decimal-short, long-short, field-short}
 
 -- ---- the library's digits
 
@@ -57,6 +55,10 @@ unfolding wide_decimal
 fewest_wide n zero h f = absurd (omega (arith, f.0))
 fewest_wide n (suc r) h f = fewest 19 r n f (omega (arith, fewest_most n (suc r) h f))
 
+-- what the library writes
+pub told : (s : List ℕ) {n r : ℕ} → n < 2 ^ 64 → IsDigitCount 10 1 n r → take r s ≡ last_digits 10 r n → take r s ≡ wide_decimal n
+told s {n} {r} h f e = e ∙ sym (fewest_wide n r h f)
+
 digits_short : (k n : ℕ) → length (digits_in k n) ≤ suc k
 unfolding digits_in
 digits_short zero n = omega arith
@@ -70,11 +72,64 @@ pub wide_short : (n : ℕ) → length (wide_decimal n) ≤ 20
 unfolding wide_decimal
 wide_short n = digits_short 19 n
 
--- ---- the line of open gates
+-- ---- numbers under 100 and under 10,000 are told as any number is
+
+one_digit : (k n : ℕ) → n < 10 → digits_in k n ≡ digit n ∷ []
+unfolding digits_in
+one_digit zero n h = refl
+one_digit (suc k) n h = rw (lt-ltb n 10 h)
+
+two_digits : (k n : ℕ) → n < 100 → digits_in (suc k) n ≡ decimal n
+unfolding digits_in decimal
+two_digits k n h = rw (one_digit k (n / 10) (omega arith))
+
+more_digits : (k n : ℕ) → 10 ≤ n → digits_in (suc k) n ≡ digits_in k (n / 10) ++ (digit (n % 10) ∷ [])
+unfolding digits_in
+more_digits k n h = rw (le-ltb n 10 h)
+
+decimal_wide : (n : ℕ) → n < 100 → wide_decimal n ≡ decimal n
+unfolding wide_decimal
+decimal_wide n h = two_digits 18 n h
+
+long_wide : (n : ℕ) → n < 10000 → wide_decimal n ≡ long_decimal n
+unfolding wide_decimal long_decimal
+long_wide n h = at (ltb n 100) refl
+  where
+    at : (b : Bool) → ltb n 100 ≡ b → digits_in 19 n ≡ cond b (decimal n) (decimal (n / 100) ++ (digit (n / 10 % 10) ∷ digit (n % 10) ∷ []))
+    at true e = two_digits 18 n (ltb-true n 100 e)
+    at false e =
+        let l : 100 ≤ n = ltb-false n 100 e in
+        let q : n / 10 / 10 ≡ n / 100 = omega arith in
+        rw (more_digits 18 n (omega arith), more_digits 17 (n / 10) (omega arith), q, two_digits 16 (n / 100) (omega arith)) (simp append_assoc)
+
+-- ---- a number and the character behind it
+
+pub wide-field-length : (n c : ℕ) → length (wide_field n c) ≡ length (wide_decimal n) + 1
+unfolding wide_field
+wide-field-length n c = simp length-append
 
 pub wide-field-short : (n c : ℕ) → length (wide_field n c) ≤ 21
-unfolding wide_field
-wide-field-short n c = simp length-append (omega (arith, wide_short n))
+wide-field-short n c = omega (arith, wide-field-length n c, wide_short n)
+
+pub number_short : (n c : ℕ) → n < 100 → length (wide_field n c) ≤ 3
+number_short n c h = omega (arith, wide-field-length n c, ap length (decimal_wide n h), decimal-short n)
+
+pub number-long : (n c : ℕ) → n < 10000 → length (wide_field n c) ≤ 5
+number-long n c h = omega (arith, wide-field-length n c, ap length (long_wide n h), long-short n)
+
+pub field_wide : (n : ℕ) → n < 10000 → wide_field n 32 ≡ field n
+unfolding wide_field field
+field_wide n h = rw (long_wide n h)
+
+pub line_wide : (n : ℕ) (s : List ℕ) → n < 100 → line n s ≡ wide_field n 32 ++ octets_line s
+unfolding wide_field line
+line_wide n s h = rw (decimal_wide n h) (simp append_assoc)
+
+pub lent_wide : (n : ℕ) → n < 10000 → lent_line n ≡ (108 ∷ 101 ∷ 110 ∷ 116 ∷ 32 ∷ []) ++ wide_field n 10
+unfolding wide_field lent_line
+lent_wide n h = rw (long_wide n h)
+
+-- ---- the line of open gates
 
 pub octet-field-length : (x : ℕ) → length (octet_field x) ≡ 3
 unfolding octet_field
@@ -83,29 +138,6 @@ octet-field-length x = simp (length-append, hex-length)
 pub open_short : (s k d : ℕ) → length (open_line s k d) ≤ 50
 unfolding open_line
 open_short s k d = simp length-append (omega (arith, field-short 0, octet-field-length s, wide-field-short k 32, wide-field-short d 10))
-
--- four fields one behind another
-pub open_written : (out₀ out₁ out₂ out₃ out₄ : List ℕ) (at s k d p q r t : ℕ) → at + 50 ≤ length out₀
-    → p ≡ at + length (field 0) → out₁ ≡ splice out₀ at (field 0)
-    → q ≡ p + length (octet_field s) → out₂ ≡ splice out₁ p (octet_field s)
-    → r ≡ q + length (wide_field k 32) → out₃ ≡ splice out₂ q (wide_field k 32)
-    → t ≡ r + length (wide_field d 10) → out₄ ≡ splice out₃ r (wide_field d 10)
-    → (t ≡ at + length (open_line s k d)) × (out₄ ≡ splice out₀ at (open_line s k d))
-unfolding open_line
-open_written out₀ out₁ out₂ out₃ out₄ at s k d p q r t h ep e₁ eq e₂ er e₃ et e₄ =
-    let a = field 0 in
-    let b = octet_field s in
-    let c = wide_field k 32 in
-    let v = wide_field d 10 in
-    let al = field-short 0 in
-    let bl = octet-field-length s in
-    let cl = wide-field-short k 32 in
-    let s₂ : out₂ ≡ splice out₀ at (a ++ b) = then out₀ a b at p (omega arith) ep e₁ e₂ in
-    let n₂ : length (a ++ b) ≡ length a + length b = simp length-append in
-    let s₃ : out₃ ≡ splice out₀ at (a ++ b ++ c) = then out₀ (a ++ b) c at q (omega arith) (omega arith) s₂ e₃ in
-    let n₃ : length (a ++ b ++ c) ≡ length a + length b + length c = simp length-append in
-    let s₄ : out₄ ≡ splice out₀ at (a ++ b ++ c ++ v) = then out₀ (a ++ b ++ c) v at r (omega arith) (omega arith) s₃ e₄ in
-    (simp length-append (omega arith), simp append_assoc at s₄)
 
 -- ---- some numbers, computed
 

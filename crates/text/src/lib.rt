@@ -1,10 +1,11 @@
-// Lines of text, written at a place of a room. Each function returns the place after what it wrote, and says by a
-// definition of `Lines` what every octet of the room holds afterwards.
+// Lines of text, printed on a page. Each function says by a definition of `Lines` what it prints.
 #![tactic(auto)]
 
 ghost use Rattle.std.specs.Prelude.{◌+◌, ◌≤◌, ◌<◌, ◌≡◌, length};
-ghost use Rattle.octets.specs.Writing.{Wrote};
-ghost use Rattle.text.specs.Lines.{digit, hex, decimal, shown_octets, octets_line, line, long_decimal, lent_line, field, full_line, wide_decimal, wide_field, octet_field, open_line};
+ghost use Rattle.page.specs.Printing.{HasRoom, Prints};
+ghost use Rattle.text.specs.Lines.{digit, hex, shown_octets, octets_line, line, lent_line, full_line, wide_field, octet_field, open_line};
+
+use page::Page;
 
 // The character of a digit: 39 more for a letter, taken from all bits of an octet or from none. With a quotient by 10 or a
 // test, LLVM puts branches into the loop over it.
@@ -15,163 +16,102 @@ fn digit(d: u8) -> u8
     d + 48 + ((d + 6) / 16 * 255 & 39)
 }
 
-// Octets as two digits each.
-pub fn write_hex(out: &mut [u8], at: usize, src: &[u8]) -> usize
-    requires { at + (length src.now + length src.now) ≤ length out.old }
-    ensures { Wrote out.old at (hex src.now) result out.new }
+// Octets as two digits each, over all of a room: through a page, each digit would be stored behind the last one's place.
+fn fill_hex(room: &mut [u8], src: &[u8])
+    requires { length room.old ≡ length src.now + length src.now }
+    ensures { room.new ≡ hex src.now }
 {
-    let mut to = at;
-    let mut i = 0;
-    while i < src.len() {
-        let x = src[i];
-        out[to] = digit(x / 16);
-        out[to + 1] = digit(x % 16);
-        to += 2;
-        i += 1;
+    for (i, x) in src.iter().enumerate() {
+        room[2 * i] = digit(*x / 16);
+        room[2 * i + 1] = digit(*x % 16);
     }
-    to
 }
 
-// A number under 100.
-fn write_decimal(out: &mut [u8], at: usize, number: usize) -> usize
-    requires { (number < 100) × (at + 2 ≤ length out.old) }
-    ensures { Wrote out.old at (decimal number) result out.new }
+// Octets as two digits each.
+pub fn write_hex(page: &mut Page<'_>, src: &[u8])
+    requires { HasRoom page.old (length src.now + length src.now) }
+    ensures { Prints page.old (hex src.now) page.new }
 {
-    if number < 10 {
-        out[at] = digit(number as u8);
-        return at + 1;
-    }
-    out[at] = digit((number / 10) as u8);
-    out[at + 1] = digit((number % 10) as u8);
-    at + 2
+    let end = page.at + (src.len() + src.len());
+    fill_hex(&mut page.room[page.at..end], src);
+    page.at = end;
 }
 
 // Octets, or `-` for none.
-fn write_shown(out: &mut [u8], at: usize, src: &[u8]) -> usize
-    requires { at + (length src.now + length src.now + 1) ≤ length out.old }
-    ensures { Wrote out.old at (shown_octets src.now) result out.new }
+fn write_shown(page: &mut Page<'_>, src: &[u8])
+    requires { HasRoom page.old (length src.now + length src.now + 1) }
+    ensures { Prints page.old (shown_octets src.now) page.new }
 {
-    if src.len() == 0 {
-        out[at] = b'-';
-        return at + 1;
+    if src.is_empty() {
+        page.push(b'-');
+        return;
     }
-    write_hex(out, at, src)
+    write_hex(page, src);
 }
 
 // A line of octets alone.
-pub fn write_octets(out: &mut [u8], at: usize, src: &[u8]) -> usize
-    requires { at + (length src.now + length src.now + 2) ≤ length out.old }
-    ensures { Wrote out.old at (octets_line src.now) result out.new }
+pub fn write_octets(page: &mut Page<'_>, src: &[u8])
+    requires { HasRoom page.old (length src.now + length src.now + 2) }
+    ensures { Prints page.old (octets_line src.now) page.new }
 {
-    let end = write_shown(out, at, src);
-    out[end] = b'\n';
-    end + 1
+    write_shown(page, src);
+    page.push(b'\n');
 }
 
-// A line: a number under 100, a space, octets.
-pub fn write_line(out: &mut [u8], at: usize, number: usize, reply: &[u8]) -> usize
-    requires { (number < 100) × (at + (length reply.now + length reply.now + 5) ≤ length out.old) }
-    ensures { Wrote out.old at (line number reply.now) result out.new }
-{
-    let space = write_decimal(out, at, number);
-    out[space] = b' ';
-    write_octets(out, space + 1, reply)
-}
-
-// A number under 10,000.
-fn write_long_decimal(out: &mut [u8], at: usize, number: usize) -> usize
-    requires { (number < 10000) × (at + 4 ≤ length out.old) }
-    ensures { Wrote out.old at (long_decimal number) result out.new }
-{
-    if number < 100 {
-        return write_decimal(out, at, number);
-    }
-    let tens = write_decimal(out, at, number / 100);
-    out[tens] = digit((number / 10 % 10) as u8);
-    out[tens + 1] = digit((number % 10) as u8);
-    tens + 2
-}
-
-// The line that tells how much was lent.
-pub fn write_lent(out: &mut [u8], at: usize, lent: usize) -> usize
-    requires { (lent < 10000) × (at + 10 ≤ length out.old) }
-    ensures { Wrote out.old at (lent_line lent) result out.new }
-{
-    let number = octets::append(out, at, b"lent ");
-    let end = write_long_decimal(out, number, lent);
-    out[end] = b'\n';
-    end + 1
-}
-
-// A number under 10,000 and a space.
-fn write_field(out: &mut [u8], at: usize, number: usize) -> usize
-    requires { (number < 10000) × (at + 5 ≤ length out.old) }
-    ensures { Wrote out.old at (field number) result out.new }
-{
-    let end = write_long_decimal(out, at, number);
-    out[end] = b' ';
-    end + 1
-}
-
-// A line told in full: a number, a position, octets.
-pub fn write_full_line(
-    out: &mut [u8],
-    at: usize,
-    number: usize,
-    position: usize,
-    reply: &[u8],
-) -> usize
-    requires { (number < 10000) × (position < 10000) × (at + (length reply.now + length reply.now + 12) ≤ length out.old) }
-    ensures { Wrote out.old at (full_line number position reply.now) result out.new }
-{
-    let second = write_field(out, at, number);
-    let third = write_field(out, second, position);
-    write_octets(out, third, reply)
-}
-
-// A number of 64 bits.
-fn write_wide_decimal(out: &mut [u8], at: usize, number: u64) -> usize
-    requires { at + 20 ≤ length out.old }
-    ensures { Wrote out.old at (wide_decimal number) result out.new }
+// A number in decimal, and the character behind it.
+fn write_field(page: &mut Page<'_>, number: u64, after: u8)
+    requires { HasRoom page.old (length (wide_field number after)) }
+    ensures { Prints page.old (wide_field number after) page.new }
 {
     let mut digits = [0u8; 20];
     let n = io::decimal(number, &mut digits);
-    octets::append(out, at, &digits[..n])
+    page.print(&digits[..n]);
+    page.push(after);
 }
 
-// It and the character behind it.
-fn write_wide_field(out: &mut [u8], at: usize, number: u64, after: u8) -> usize
-    requires { at + 21 ≤ length out.old }
-    ensures { Wrote out.old at (wide_field number after) result out.new }
+// The line that tells how much was lent.
+pub fn write_lent(page: &mut Page<'_>, lent: usize)
+    requires { (lent < 10000) × HasRoom page.old 10 }
+    ensures { Prints page.old (lent_line lent) page.new }
 {
-    let end = write_wide_decimal(out, at, number);
-    out[end] = after;
-    end + 1
+    page.print(b"lent ");
+    write_field(page, lent as u64, b'\n');
+}
+
+// A line: a number under 100, a space, octets.
+pub fn write_line(page: &mut Page<'_>, number: usize, reply: &[u8])
+    requires { (number < 100) × HasRoom page.old (length reply.now + length reply.now + 5) }
+    ensures { Prints page.old (line number reply.now) page.new }
+{
+    write_field(page, number as u64, b' ');
+    write_octets(page, reply);
+}
+
+// A line told in full: a number, a position, octets.
+pub fn write_full_line(page: &mut Page<'_>, number: usize, position: usize, reply: &[u8])
+    requires { (number < 10000) × (position < 10000) × HasRoom page.old (length reply.now + length reply.now + 12) }
+    ensures { Prints page.old (full_line number position reply.now) page.new }
+{
+    write_field(page, number as u64, b' ');
+    write_field(page, position as u64, b' ');
+    write_octets(page, reply);
 }
 
 // An octet as two digits, and a space.
-fn write_octet_field(out: &mut [u8], at: usize, octet: u8) -> usize
-    requires { at + 3 ≤ length out.old }
-    ensures { Wrote out.old at (octet_field octet) result out.new }
+fn write_octet_field(page: &mut Page<'_>, octet: u8)
+    requires { HasRoom page.old 3 }
+    ensures { Prints page.old (octet_field octet) page.new }
 {
-    let space = write_hex(out, at, &[octet]);
-    out[space] = b' ';
-    space + 1
+    page.print(&[digit(octet / 16), digit(octet % 16), b' ']);
 }
 
 // The line of open gates: their states, the entry's number, the nanoseconds to the next change.
-pub fn write_open_line(
-    out: &mut [u8],
-    at: usize,
-    states: u8,
-    entry: usize,
-    nanoseconds: u64,
-) -> usize
-    requires { at + 50 ≤ length out.old }
-    ensures { Wrote out.old at (open_line states entry nanoseconds) result out.new }
+pub fn write_open_line(page: &mut Page<'_>, states: u8, entry: usize, nanoseconds: u64)
+    requires { HasRoom page.old 50 }
+    ensures { Prints page.old (open_line states entry nanoseconds) page.new }
 {
-    let second = write_field(out, at, 0);
-    let third = write_octet_field(out, second, states);
-    let fourth = write_wide_field(out, third, entry as u64, b' ');
-    write_wide_field(out, fourth, nanoseconds, b'\n')
+    write_field(page, 0, b' ');
+    write_octet_field(page, states);
+    write_field(page, entry as u64, b' ');
+    write_field(page, nanoseconds, b'\n');
 }

@@ -2,8 +2,9 @@
 use Prim.Native.Nat.{ℕ, ◌+◌, ◌*◌, ◌≤◌, ◌<◌}
 use native.Mathlib.Numerals.{add-one}
 use native.Mathlib.Omega.{arith}
-use mathlib.Core.Path.{◌≡◌, refl, sym, ◌∙◌}
+use mathlib.Core.Path.{◌≡◌, refl, sym, subst, ◌∙◌}
 use mathlib.Core.Bool.{Bool, true, false, ◌&&◌, cond}
+use mathlib.Core.Logic.{◌⊎◌, inl, inr}
 use mathlib.Core.List.{List, [], ◌∷◌, ◌++◌, append-nil}
 use lib.ListN.{length, take, set, length-append}
 use lib.Seq.{take-suc-set, take_all, take-append-le, length-take-le}
@@ -21,29 +22,23 @@ use Rattle.typed.proofs.Signs.{SmallSign, small_sign}
 
 -- ---- the forms that a `match` does not name
 
-pub no_dash : (f : Form) → ((n : ℕ) → f ≡ Lead n → ⊥) → ((n : ℕ) → f ≡ Numbered n → ⊥) → form_after f Dash ≡ Other
-unfolding form_after by_sign
-no_dash Blank k l = refl
-no_dash (Digit h) k l = refl
-no_dash (Lead n) k l = absurd (k n refl)
-no_dash (Number n) k l = refl
-no_dash (Numbered n) k l = absurd (l n refl)
-no_dash Octets k l = refl
-no_dash (Half h) k l = refl
-no_dash (Refused n) k l = refl
-no_dash Other k l = refl
+-- an octet that is no digit completes none
+pub no_digit_completes : (f : Form) (s : Sign) → ((d : ℕ) → s ≡ Hex d → ⊥) → completed f s ≡ []
+unfolding completed
+no_digit_completes f (Hex d) k = absurd (k d refl)
+no_digit_completes f Space k = refl
+no_digit_completes f Dash k = refl
+no_digit_completes f Stray k = refl
 
-pub stray_makes_other : (f : Form) → Other ≡ form_after f Stray
-unfolding form_after by_sign
-stray_makes_other Blank = refl
-stray_makes_other (Digit h) = refl
-stray_makes_other (Lead n) = refl
-stray_makes_other (Number n) = refl
-stray_makes_other (Numbered n) = refl
-stray_makes_other Octets = refl
-stray_makes_other (Half h) = refl
-stray_makes_other (Refused n) = refl
-stray_makes_other Other = refl
+-- a digit completes an octet behind a line's first and behind one that stands alone
+pub completes : {f : Form} {h : ℕ} (d : ℕ) → (f ≡ Digit h) ⊎ (f ≡ Half h) → completed_by f d ≡ (h * 16 + d) ∷ []
+unfolding completed_by
+completes d (inl e) = rw e
+completes d (inr e) = rw e
+
+pub first_small : {f : Form} {h : ℕ} → (f ≡ Digit h) ⊎ (f ≡ Half h) → Small f → h < 16
+first_small (inl e) k = rw e at k
+first_small (inr e) k = rw e at k
 
 pub no_octet : (f : Form) (d : ℕ) → ((h : ℕ) → f ≡ Digit h → ⊥) → ((h : ℕ) → f ≡ Half h → ⊥) → completed_by f d ≡ []
 unfolding completed_by
@@ -135,5 +130,7 @@ module _ (room : List ℕ) (l : Line) (c : ℕ) (k : Keeps room l) where
 
   -- one that completes none
   pub goes_on_bare : (s : Sign) (r : Form) → l.comment ≡ false → (c ≡ 35 → ⊥) → s ≡ sign_of c → r ≡ form_after l.form s → completed l.form s ≡ []
-      → Takes room l c (record { form = r; comment = false; count = l.count }) room
-  goes_on_bare s r e f es er z = goes_on s r l.count room e f es er k.long (stores_none room l.count k.long k.within z)
+      → Takes room l c (record { form = r; comment = l.comment; count = l.count }) room
+  goes_on_bare s r e f es er z =
+      subst (λ (b : Bool). Takes room l c (record { form = r; comment = b; count = l.count }) room) (sym e)
+      (goes_on s r l.count room e f es er k.long (stores_none room l.count k.long k.within z))

@@ -4,6 +4,7 @@ use Prim.Native.Char.{Char, code}
 use native.Mathlib.Omega.{arith}
 use mathlib.Core.Path.{◌≡◌, refl, sym, ap, subst, ◌∙◌}
 use mathlib.Core.Bool.{Bool, true, false, cond, and-false}
+use mathlib.Core.Logic.{◌⊎◌, inl, inr}
 use lib.Bits.{bit_or, or_add_and, and_le_l, and_le_r}
 use lib.Dec.{eqb, leb, ltb}
 use borrow.Author.Tests.{le-leb, lt-leb, leb-true, eqb-true, lt-ltb, le-ltb, ne_eqb}
@@ -87,6 +88,13 @@ decoded (Hex d) v e h = ap Hex (sym (eqb-true v d e))
 decoded Space v e h = absurd (omega (arith, leb-true 16 v e))
 decoded Dash v e h = absurd (omega (arith, leb-true 16 v e))
 decoded Stray v e h = absurd (omega (arith, leb-true 16 v e))
+
+-- the three blanks, in the order in which a `match` tells them
+pub is_space : {c : ℕ} → (c ≡ 9) ⊎ ((c ≡ 13) ⊎ (c ≡ 32)) → sign_of c ≡ Space
+unfolding sign_of is_blank
+is_space (inl e) = ap sign_of e
+is_space (inr (inl e)) = ap sign_of e
+is_space (inr (inr e)) = ap sign_of e
 
 -- no digit, and none of the octets that a `match` names
 abbrev pub Unnamed : ℕ → Type 0

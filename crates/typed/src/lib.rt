@@ -42,7 +42,7 @@ pub enum Form {
     Other,
 }
 
-// A line so far. The octets are at the front of a room.
+// A line so far. Its first `count` octets are at the front of a room that is lent beside it: the room outlives the line.
 #[derive(Clone, Copy)]
 pub struct Line {
     pub form: Form,
@@ -57,7 +57,8 @@ struct Run {
     at: usize,
 }
 
-// A line to a place in what is held; whether it has ended there.
+// A line to a place in what is held; whether it has ended there. Line and place are told either way, so this is no
+// `Option`.
 #[derive(Clone, Copy)]
 pub struct Scanned {
     pub line: Line,
@@ -84,7 +85,7 @@ pub fn start() -> Line
 fn digit(c: u8) -> usize
     ensures { decodes (sign_of c) result ≡ true }
 {
-    let x = octets::wide(c);
+    let x = usize::from(c);
     let behind = (x + 208) % 256;
     let decimal = behind + (behind + 6) / 16 * 6;
     let letter = ((x | 32) + 159) % 256 + 10;
@@ -102,9 +103,7 @@ fn sign_of(c: u8) -> Sign
         return Sign::Hex(d as u8);
     }
     match c {
-        b' ' => Sign::Space,
-        b'\t' => Sign::Space,
-        b'\r' => Sign::Space,
+        b' ' | b'\t' | b'\r' => Sign::Space,
         b'-' => Sign::Dash,
         _ => Sign::Stray,
     }
@@ -114,53 +113,35 @@ fn sign_of(c: u8) -> Sign
 fn paired(h: u8, d: u8) -> Form
     ensures { result ≡ paired h d }
 {
-    if h < 10 {
-        if d < 10 {
-            return Form::Number(octets::wide(h) * 10 + octets::wide(d));
-        }
-    }
-    Form::Octets
-}
-
-// A form after a digit, a blank, `-`.
-fn after_digit(form: Form, d: u8) -> Form
-    ensures { result ≡ form_after form (Sign.Hex d) }
-{
-    match form {
-        Form::Blank => Form::Digit(d),
-        Form::Digit(h) => paired(h, d),
-        Form::Lead(n) => { if n == 0 { Form::Half(d) } else { Form::Other } }
-        Form::Number(_) => Form::Half(d),
-        Form::Numbered(_) => Form::Half(d),
-        Form::Octets => Form::Half(d),
-        Form::Half(_) => Form::Octets,
-        Form::Refused(_) => Form::Other,
-        Form::Other => Form::Other,
+    if (h < 10) & (d < 10) {
+        Form::Number(10 * usize::from(h) + usize::from(d))
+    } else {
+        Form::Octets
     }
 }
 
-fn after_blank(form: Form) -> Form
-    ensures { result ≡ form_after form Sign.Space }
+// A form after an octet, by what the octet is.
+#[tactic(auto, unfolding(crate::specs::Forms::form_after, crate::specs::Forms::by_sign))]
+fn after(form: Form, sign: Sign) -> Form
+    ensures { result ≡ form_after form sign }
 {
-    match form {
-        Form::Blank => Form::Blank,
-        Form::Digit(h) => { if h < 10 { Form::Lead(h) } else { Form::Other } }
-        Form::Lead(n) => Form::Lead(n),
-        Form::Number(n) => Form::Numbered(n),
-        Form::Numbered(n) => Form::Numbered(n),
-        Form::Octets => Form::Octets,
-        Form::Half(_) => Form::Other,
-        Form::Refused(n) => Form::Refused(n),
-        Form::Other => Form::Other,
-    }
-}
-
-fn after_dash(form: Form) -> Form
-    ensures { result ≡ form_after form Sign.Dash }
-{
-    match form {
-        Form::Lead(n) => Form::Refused(octets::wide(n)),
-        Form::Numbered(n) => Form::Refused(n),
+    match (form, sign) {
+        (Form::Blank, Sign::Hex(d)) => Form::Digit(d),
+        (Form::Blank, Sign::Space) => Form::Blank,
+        (Form::Digit(h), Sign::Hex(d)) => paired(h, d),
+        (Form::Digit(h), Sign::Space) if h < 10 => Form::Lead(h),
+        (Form::Lead(n), Sign::Hex(d)) if n == 0 => Form::Half(d),
+        (Form::Lead(n), Sign::Space) => Form::Lead(n),
+        (Form::Lead(n), Sign::Dash) => Form::Refused(usize::from(n)),
+        (Form::Number(_), Sign::Hex(d)) => Form::Half(d),
+        (Form::Number(n), Sign::Space) => Form::Numbered(n),
+        (Form::Numbered(_), Sign::Hex(d)) => Form::Half(d),
+        (Form::Numbered(n), Sign::Space) => Form::Numbered(n),
+        (Form::Numbered(n), Sign::Dash) => Form::Refused(n),
+        (Form::Octets, Sign::Hex(d)) => Form::Half(d),
+        (Form::Octets, Sign::Space) => Form::Octets,
+        (Form::Half(_), Sign::Hex(_)) => Form::Octets,
+        (Form::Refused(n), Sign::Space) => Form::Refused(n),
         _ => Form::Other,
     }
 }
@@ -185,8 +166,7 @@ fn complete(room: &mut [u8], count: usize, form: Form, d: u8) -> usize
     ensures { Stores room.old count (completed_by form d) result room.new }
 {
     match form {
-        Form::Digit(h) => keep(room, count, h * 16 + d),
-        Form::Half(h) => keep(room, count, h * 16 + d),
+        Form::Digit(h) | Form::Half(h) => keep(room, count, h * 16 + d),
         _ => count,
     }
 }
@@ -201,54 +181,26 @@ fn take(room: &mut [u8], line: Line, c: u8) -> Line
     if line.comment {
         return line;
     }
-    let form = line.form;
-    let count = line.count;
     if c == b'#' {
         return Line {
-            form,
             comment: true,
-            count,
+            ..line
         };
     }
-    match sign_of(c) {
-        Sign::Hex(d) => Line {
-            form: after_digit(form, d),
-            comment: false,
-            count: complete(room, count, form, d),
-        },
-        Sign::Space => Line {
-            form: after_blank(form),
-            comment: false,
-            count,
-        },
-        Sign::Dash => Line {
-            form: after_dash(form),
-            comment: false,
-            count,
-        },
-        Sign::Stray => Line {
-            form: Form::Other,
-            comment: false,
-            count,
-        },
+    let sign = sign_of(c);
+    let form = after(line.form, sign);
+    let Sign::Hex(d) = sign else {
+        return Line { form, ..line };
+    };
+    Line {
+        form,
+        comment: false,
+        count: complete(room, line.count, line.form, d),
     }
 }
 
-// A line of whole octets that goes on at a place.
-fn in_octets(count: usize, at: usize) -> Run
-    ensures { (result.line ≡ whole_octets count) × (result.at ≡ at) }
-{
-    Run {
-        line: Line {
-            form: Form::Octets,
-            comment: false,
-            count,
-        },
-        at,
-    }
-}
-
-// Pairs of digits taken behind whole octets: what most of a long line is. The two digits are tested at once.
+// Pairs of digits taken behind whole octets: what most of a long line is. The two digits are tested at once. The
+// place is counted by hand, since it is returned.
 fn take_pairs(room: &mut [u8], count: usize, held: &[u8], from: usize) -> Run
     requires { Keeps room.old (whole_octets count) × (from ≤ length held.now) }
     ensures { Goes room.old (whole_octets count) held.now from room.new result.line result.at }
@@ -258,14 +210,18 @@ fn take_pairs(room: &mut [u8], count: usize, held: &[u8], from: usize) -> Run
     while 1 < held.len() - at {
         let h = digit(held[at]);
         let d = digit(held[at + 1]);
-        let both = h | d;
-        if 15 < both {
-            return in_octets(kept, at);
+        if 15 < h | d {
+            break;
         }
         kept = keep(room, kept, (h * 16 + d) as u8);
         at += 2;
     }
-    in_octets(kept, at)
+    let line = Line {
+        form: Form::Octets,
+        comment: false,
+        count: kept,
+    };
+    Run { line, at }
 }
 
 // A line of whole octets goes on by pairs; any other stays where it is.
@@ -276,14 +232,14 @@ fn take_run(room: &mut [u8], line: Line, held: &[u8], from: usize) -> Run
     if line.comment {
         return Run { line, at: from };
     }
-    let form = line.form;
-    let Form::Octets = form else {
+    let Form::Octets = line.form else {
         return Run { line, at: from };
     };
     take_pairs(room, line.count, held, from)
 }
 
-// Octets taken from a place on, up to the first line feed, which is passed, or to the end.
+// Octets taken from a place on, up to the first line feed, which is passed, or to the end. A turn goes on by as many
+// octets as it took, so this is no `for`.
 pub fn scan(room: &mut [u8], line: Line, held: &[u8], from: usize) -> Scanned
     requires { Keeps room.old line × (from ≤ length held.now) }
     ensures { Scans room.old line held.now from result room.new }

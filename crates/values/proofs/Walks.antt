@@ -1,36 +1,28 @@
--- A turn of the walk over a list's entries.
-use Prim.Native.Nat.{ℕ, suc, ◌+◌, ◌-◌, ◌*◌, ◌<◌}
-use native.Mathlib.Omega.{arith}
-use mathlib.Core.Path.{◌≡◌, ◌∙◌}
+-- A turn of the walk over a list's entries, as the library cuts them.
+use Prim.Native.Nat.{ℕ, zero, suc, ◌+◌, ◌/◌, ◌<◌}
+use native.Mathlib.Numerals.{add-one}
+use mathlib.Core.Path.{◌≡◌, refl, ap}
 use mathlib.Core.Bool.{Bool, ◌&&◌, and_assoc}
-use mathlib.Core.List.{List, ◌∷◌}
-use lib.ListN.{drop}
-use lib.Seq.{drop-drop}
-use Rattle.meaning.specs.Octets.{part}
-use Rattle.meaning.specs.Block.{cut_in, interval, entry_ok, each_ok, intervals}
+use mathlib.Core.List.{List, [], ◌∷◌}
+use lib.ListN.{length, take, drop, get_or}
+use lib.Seq.{drop-cons}
+use Rattle.std.specs.Simd.{first_chunks}
+use Rattle.meaning.specs.Block.{cut_in, entries_of, interval, entry_ok, each_ok, intervals}
 
--- the entries from k on: the entry there, and those from the next on
-pub entries-turn : (v : List ℕ) (n k : ℕ) → k < n → cut_in (n - k) (drop (k * 7) v) ≡ part v (k * 7) 7 ∷ cut_in (n - (k + 1)) (drop ((k + 1) * 7) v)
-unfolding cut_in part
-entries-turn v n k h =
-    let e : n - k ≡ suc (n - (k + 1)) = omega arith in
-    let f : k * 7 + 7 ≡ (k + 1) * 7 = omega arith in
-    rw (e, drop-drop, f)
+chunks_are : (n : ℕ) (v : List ℕ) → first_chunks 7 n v ≡ cut_in n v
+unfolding cut_in
+chunks_are zero v = refl
+chunks_are (suc n) v = ap (λ (es : List (List ℕ)). take 7 v ∷ es) (chunks_are n (drop 7 v))
 
-module _ (v : List ℕ) (n k : ℕ) (h : k < n) where
-  pub each_turn : (ok : Bool) → (ok && entry_ok (part v (k * 7) 7) && each_ok (cut_in (n - (k + 1)) (drop ((k + 1) * 7) v))) ≡ (ok && each_ok (cut_in (n - k) (drop (k * 7) v)))
+pub entries_are : (v : List ℕ) → first_chunks 7 (length v / 7) v ≡ entries_of v
+unfolding entries_of
+entries_are v = chunks_are (length v / 7) v
+
+module _ (es : List (List ℕ)) (i : ℕ) (h : i < length es) where
+  pub each_turn : (ok : Bool) → (ok && entry_ok (get_or es i []) && each_ok (drop (i + 1) es)) ≡ (ok && each_ok (drop i es))
   unfolding each_ok
-  each_turn ok = rw (entries-turn v n k h) (and_assoc ok (entry_ok (part v (k * 7) 7)) (each_ok (cut_in (n - (k + 1)) (drop ((k + 1) * 7) v))))
+  each_turn ok = rw (add-one, drop-cons es i [] h) (and_assoc ok (entry_ok (get_or es i [])) (each_ok (drop (suc i) es)))
 
-  pub intervals-turn : intervals (cut_in (n - k) (drop (k * 7) v)) ≡ interval (part v (k * 7) 7) + intervals (cut_in (n - (k + 1)) (drop ((k + 1) * 7) v))
+  pub intervals-turn : intervals (drop i es) ≡ interval (get_or es i []) + intervals (drop (i + 1) es)
   unfolding intervals
-  intervals-turn = rw (entries-turn v n k h)
-
--- two entries from k on
-module _ (v : List ℕ) (n k : ℕ) (h : k + 1 < n) where
-  pub each_pair : (ok : Bool) → (ok && (entry_ok (part v (k * 7) 7) && entry_ok (part v (k * 7 + 7) 7)) && each_ok (cut_in (n - (k + 2)) (drop ((k + 2) * 7) v))) ≡ (ok && each_ok (cut_in (n - k) (drop (k * 7) v)))
-  each_pair ok =
-      let e : k * 7 + 7 ≡ (k + 1) * 7 = omega arith in
-      let f : k + 2 ≡ k + 1 + 1 = omega arith in
-      rw (e, f, ← and_assoc ok (entry_ok (part v (k * 7) 7)) (entry_ok (part v ((k + 1) * 7) 7)))
-      (each_turn v n (k + 1) h (ok && entry_ok (part v (k * 7) 7)) ∙ each_turn v n k (omega arith) ok)
+  intervals-turn = rw (add-one, drop-cons es i [] h)

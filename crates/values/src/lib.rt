@@ -1,5 +1,6 @@
 // Value rules: whether a number, a base time, a control list, a cycle keep theirs, and whether intervals fit a cycle.
-// Each function is asked of the lengths that the table permits, and every answer is that of a definition of `meaning`.
+// Each function is called only with lengths that the table permits, and every answer is that of a definition of `meaning`.
+// A value stays a slice: callers know its length by a proof, and to make an array of it is a test that cannot fail.
 #![tactic(auto)]
 
 ghost use Rattle.std.specs.Prelude.{◌/◌, ◌≤◌, ◌<◌, ◌≡◌, true, ◌&&◌, ◌||◌, length, eqb, leb};
@@ -12,9 +13,6 @@ pub const ENTRIES_MOST: usize = 64;
 
 pub const LIST_MOST: usize = ENTRY_LENGTH * ENTRIES_MOST;
 
-// Octets of two entries, which a turn takes at once.
-const PAIR_LENGTH: usize = 2 * ENTRY_LENGTH;
-
 // Where the gate states and the interval stand in an entry.
 pub const STATES_AT: usize = 2;
 
@@ -22,13 +20,13 @@ pub const INTERVAL_AT: usize = 3;
 
 // The largest operation of an entry, and the octet that follows it; the least and the greatest number that the two make, the low
 // octet first.
-const OPERATION_MOST: usize = 2;
+const OPERATION_MOST: u16 = 2;
 
-const ENTRY_MARK: usize = 5;
+const ENTRY_MARK: u16 = 5;
 
-const HEAD_LEAST: usize = 256 * ENTRY_MARK;
+const HEAD_LEAST: u16 = 256 * ENTRY_MARK;
 
-const HEAD_MOST: usize = HEAD_LEAST + OPERATION_MOST;
+const HEAD_MOST: u16 = HEAD_LEAST + OPERATION_MOST;
 
 // Nanoseconds of a second.
 const SECOND: u64 = 1_000_000_000;
@@ -39,7 +37,7 @@ pub fn as_number(v: &[u8]) -> u64
     ensures { (result ≡ as_number v.now) × (result < 4294967296) }
 {
     if v.len() == 1 {
-        octets::wide(v[0]) as u64
+        u64::from(v[0])
     } else {
         octets::get32(v, 0)
     }
@@ -91,32 +89,22 @@ pub fn fits_cycle(sum: u64, v: &[u8]) -> bool
 
 // One entry of a control list: what it has to hold (RULES 4.22 to 4.25). Its first two octets are tested as one number: the compiler
 // makes one comparison of it.
-fn entry_ok(e: &[u8]) -> bool
-    requires { length e.now ≡ 7 }
+fn entry_ok(e: &[u8; ENTRY_LENGTH]) -> bool
     ensures { result ≡ entry_ok e.now }
 {
-    let head = octets::wide(e[0]) + 256 * octets::wide(e[1]);
+    let head = u16::from_le_bytes([e[0], e[1]]);
     (HEAD_LEAST <= head) & ((head <= HEAD_MOST) & (1 <= octets::get32(e, INTERVAL_AT)))
 }
 
-// The entries of a list, each looked at once and all of them, two at a turn: with no early exit.
+// The entries of a list, each looked at once and all of them, with no early exit, so that the compiler takes eight at
+// a turn.
 pub fn entries_ok(v: &[u8]) -> bool
     ensures { result ≡ each_ok (entries_of v.now) }
 {
-    let n = v.len() / ENTRY_LENGTH;
+    let (entries, _) = v.as_chunks::<ENTRY_LENGTH>();
     let mut ok = true;
-    let mut k: usize = 0;
-    while k + 1 < n {
-        let at = k * ENTRY_LENGTH;
-        let one = &v[at..at + ENTRY_LENGTH];
-        let next = &v[at + ENTRY_LENGTH..at + PAIR_LENGTH];
-        ok = ok & (entry_ok(one) & entry_ok(next));
-        k += 2;
-    }
-    if k < n {
-        let at = k * ENTRY_LENGTH;
-        let last = &v[at..at + ENTRY_LENGTH];
-        return ok & entry_ok(last);
+    for e in entries {
+        ok &= entry_ok(e);
     }
     ok
 }
@@ -126,14 +114,10 @@ pub fn intervals(v: &[u8]) -> u64
     requires { length v.now / 7 ≤ 64 }
     ensures { result ≡ intervals (entries_of v.now) }
 {
-    let n = v.len() / ENTRY_LENGTH;
-    let mut sum: u64 = 0;
-    let mut k: usize = 0;
-    while k < n {
-        let at = k * ENTRY_LENGTH;
-        let e = &v[at..at + ENTRY_LENGTH];
+    let (entries, _) = v.as_chunks::<ENTRY_LENGTH>();
+    let mut sum = 0;
+    for e in entries {
         sum += octets::get32(e, INTERVAL_AT);
-        k += 1;
     }
     sum
 }

@@ -2,14 +2,21 @@
 // are in `Wire` of `meaning`; the contracts of the code that uses these hold the two together.
 #![tactic(auto)]
 
+ghost use Rattle.std.specs.Prelude.{◌≡◌};
+ghost use Rattle.wire.specs.Causes.{octet_of};
+
 // ---- profiles
 
+// An octet, and no enum, in the functions that take one: they say what they do for every octet, and with an enum their callers would
+// have to know that it is one of the two.
 pub const RELEASE_18: u8 = 2;
 
 pub const RELEASE_16: u8 = 3;
 
 // ---- types of messages
 
+// These are octets, as a message has them; so are the elements and codes below. Whoever reads one matches it at once; an enum would be
+// made and taken apart in the same line.
 pub const TYPE_COMMAND: u8 = 0x01;
 
 pub const TYPE_COMPLETE: u8 = 0x02;
@@ -50,6 +57,25 @@ pub const CODE_DELETE_ENTRY: u8 = 9;
 
 // ---- causes
 
+// Why a read or a set is refused. Each is one octet of a record.
+#[derive(Clone, Copy, PartialEq, Eq)]
+pub enum Cause {
+    NotSupported = 0x01,
+    InvalidValue = 0x02,
+    Unavailable = 0x03,
+    ProtocolError = 0x6F,
+}
+
+#[tactic(auto, unfolding(crate::specs::Causes::octet_of))]
+impl From<Cause> for u8 {
+    ghost from_gives = { λ c x. x ≡ octet_of c };
+
+    fn from(cause: Cause) -> u8 {
+        cause as u8
+    }
+}
+
+// Causes as a captured record has them, where they may be any octet.
 pub const CAUSE_NOT_SUPPORTED: u8 = 0x01;
 
 pub const CAUSE_INVALID_VALUE: u8 = 0x02;

@@ -6,11 +6,14 @@ use mathlib.Core.List.{List, [], ◌∷◌, ◌++◌}
 use lib.ListN.{length, set, length-append, get_or-eq_default}
 use borrow.Author.Tests.{ne_eqb}
 use Rattle.meaning.specs.Table.{place}
+use Rattle.meaning.specs.Reply.{Held, Failed}
 use Rattle.octets.specs.Letters.{letters}
-use Rattle.octets.specs.Writing.{Wrote}
-use Rattle.octets.proofs.Splices.{then}
-use Rattle.text.proofs.Writes.{stored}
 use Rattle.words.specs.Words.{parameters, word_at, word, cause_word}
+use Rattle.words.specs.declared.Valued.{Valued}
+use Rattle.words.specs.declared.Valued.TheVariants.{Value, Update, LongUpdate}
+use Rattle.words.specs.declared.Failing.{Failing}
+use Rattle.words.specs.declared.Failing.TheVariants.{ReadError, UpdateError}
+use Rattle.words.specs.Lines.{held_line, failed_line, record_line, valued_word, valued, failing_word, failing}
 
 -- ---- words
 
@@ -28,12 +31,16 @@ pub other_cause : (c : ℕ) → (c ≡ 1 → ⊥) → (c ≡ 2 → ⊥) → (c �
 unfolding cause_word
 other_cause c f g h = rw (ne_eqb c 1 f, ne_eqb c 2 g, ne_eqb c 3 h)
 
--- ---- lines of several parts
+-- ---- kinds of records
 
--- one part written behind another
-pub both : (out a b : List ℕ) (at p : ℕ) {q : ℕ} {out₁ out₂ : List ℕ} → at + length a ≤ length out → Wrote out at a p out₁ → Wrote out₁ p b q out₂ → Wrote out at (a ++ b) q out₂
-both out a b at p h v w = (simp length-append (omega (arith, v.0, w.0)), then out a b at p h v.0 v.1 w.1)
+-- the line of a record of a kind
+pub valued_line : (k : Valued) (h : Held) → record_line (valued k h) ≡ held_line (valued_word k) h
+unfolding record_line valued valued_word
+valued_line Value h = refl
+valued_line Update h = refl
+valued_line LongUpdate h = refl
 
--- one octet stored and a part behind it
-pub one_and : (out b : List ℕ) (p x : ℕ) {q : ℕ} {out₁ : List ℕ} → p + 1 ≤ length out → Wrote (set out p x) (p + 1) b q out₁ → Wrote out p (x ∷ b) q out₁
-one_and out b p x h w = both out (x ∷ []) b p (p + 1) h (stored out (x ∷ []) p x h refl) w
+pub failing_line : (k : Failing) (f : Failed) → record_line (failing k f) ≡ failed_line (failing_word k) f
+unfolding record_line failing failing_word
+failing_line ReadError f = refl
+failing_line UpdateError f = refl

@@ -7,6 +7,12 @@ use Rattle.meaning.specs.Capture.{OneRecord, a_name, a_value, a_read_error, an_u
 use Rattle.octets.specs.Letters.{letters}
 use Rattle.text.specs.Lines.{hex, octets_line, line}
 use Rattle.words.specs.Words.{word, cause_word}
+use Rattle.words.specs.declared.Valued.{Valued}
+use Rattle.words.specs.declared.Valued.TheVariants.{Value, Update, LongUpdate}
+use Rattle.words.specs.declared.Failing.{Failing}
+use Rattle.words.specs.declared.Failing.TheVariants.{ReadError, UpdateError}
+use Rattle.words.specs.declared.Fixed.{Fixed}
+use Rattle.words.specs.declared.Fixed.TheVariants.{Complete, Notify, NotAMessage}
 
 -- the kind of a record between blanks, a name in four digits, its word
 unfoldable pub started : List ℕ → ℕ → List ℕ
@@ -31,6 +37,25 @@ record_line (an_update h) = held_line (letters "  update ") h
 record_line (an_update_error f) = failed_line (letters "  update-error ") f
 record_line (a_long_update h) = held_line (letters "  long-update ") h
 
+-- the kinds of a record with a value, and of one with a cause: how a line of each starts, and a record of each
+unfoldable pub valued_word : Valued → List ℕ
+valued_word Value = letters "  value "
+valued_word Update = letters "  update "
+valued_word LongUpdate = letters "  long-update "
+
+unfoldable pub valued : Valued → Held → OneRecord
+valued Value h = a_value h
+valued Update h = an_update h
+valued LongUpdate h = a_long_update h
+
+unfoldable pub failing_word : Failing → List ℕ
+failing_word ReadError = letters "  read-error "
+failing_word UpdateError = letters "  update-error "
+
+unfoldable pub failing : Failing → Failed → OneRecord
+failing ReadError f = a_read_error f
+failing UpdateError f = an_update_error f
+
 unfoldable pub complete_line : List ℕ
 complete_line = letters "complete\n"
 
@@ -47,6 +72,12 @@ message_lines s =
 -- what a line prints that is no message and stands for nothing
 unfoldable pub not_a_message : List ℕ
 not_a_message = letters "not a message\n"
+
+-- a line of which every octet is known
+unfoldable pub fixed_line : Fixed → List ℕ
+fixed_line Complete = complete_line
+fixed_line Notify = notify_line
+fixed_line NotAMessage = not_a_message
 
 -- octets that a record takes in a message: name (2), length (2, or 1 of an update), value; name (2), cause
 unfoldable pub record_size : OneRecord → ℕ

@@ -1,203 +1,161 @@
-// What a captured message prints (RULES 21): words of parameters and causes, a line for each record. Each function writes at
-// a place of a room, returns the place after what it wrote, and says by a definition what every octet holds afterwards.
+// What a captured message prints (RULES 21): words of parameters and causes, a line for each record. Each function
+// says by a definition what it prints on a page.
 #![tactic(auto)]
 
-ghost use Rattle.std.specs.Prelude.{◌+◌, ◌≤◌, length};
-ghost use Rattle.meaning.specs.Octets.{part};
-ghost use Rattle.octets.specs.Writing.{Wrote};
-ghost use Rattle.meaning.specs.Capture.{a_name, a_value, a_read_error, an_update, an_update_error, a_long_update};
+ghost use Rattle.std.specs.Prelude.{◌+◌, ◌≤◌, ◌≡◌, length};
+ghost use Rattle.page.specs.Printing.{HasRoom, Prints};
+ghost use Rattle.meaning.specs.Capture.{a_name};
 ghost use Rattle.words.specs.Words.{word_at, word, cause_word};
-ghost use Rattle.words.specs.Lines.{started, held_line, failed_line, record_line, complete_line, notify_line, not_a_message};
+ghost use Rattle.words.specs.Lines.{started, record_line, valued_word, valued, failing_word, failing, fixed_line};
 
-// The word at a place from 8 on, and of no parameter; the others are in `write_word`. Two functions have them, since one
-// `match` over all takes several times as long to prove. Each word is a copy of a constant.
-fn write_later_word(out: &mut [u8], at: usize, k: usize) -> usize
-    requires { (8 ≤ k) × (at + 29 ≤ length out.old) }
-    ensures { Wrote out.old at (word_at k) result out.new }
-{
-    match k {
-        8 => octets::append(out, at, b"lldpV2PortConfigAdminStatusV2"),
-        9 => octets::append(out, at, b"lldpV2LocChassisIdSubtype"),
-        10 => octets::append(out, at, b"lldpV2LocChassisId"),
-        11 => octets::append(out, at, b"lldpV2LocPortIdSubtype"),
-        12 => octets::append(out, at, b"lldpV2LocPortId"),
-        13 => octets::append(out, at, b"lldpV2RemChassisIdSubtype"),
-        14 => octets::append(out, at, b"lldpV2RemChassisId"),
-        15 => octets::append(out, at, b"lldpV2RemPortIdSubtype"),
-        16 => octets::append(out, at, b"lldpV2RemPortId"),
-        17 => octets::append(out, at, b"lldpTTL"),
-        18 => octets::append(out, at, b"commit"),
-        _ => octets::append(out, at, b"unknown"),
-    }
-}
+use page::Page;
 
-// The word of a name.
-pub fn write_word(out: &mut [u8], at: usize, name: usize) -> usize
-    requires { at + 29 ≤ length out.old }
-    ensures { Wrote out.old at (word name) result out.new }
+// The word of a name. Each arm copies a constant: a function that returned the word as a slice, for one copy of any length, took
+// an eighth more of the time of `desk`.
+pub fn write_word(page: &mut Page<'_>, name: usize)
+    requires { HasRoom page.old 29 }
+    ensures { Prints page.old (word name) page.new }
 {
     let k = table::place_of(name);
     match k {
-        0 => octets::append(out, at, b"txPropagationDelay"),
-        1 => octets::append(out, at, b"GateEnabled"),
-        2 => octets::append(out, at, b"AdminBaseTime"),
-        3 => octets::append(out, at, b"AdminControlListLength"),
-        4 => octets::append(out, at, b"AdminControlList"),
-        5 => octets::append(out, at, b"AdminCycleTime"),
-        6 => octets::append(out, at, b"TickGranularity"),
-        7 => octets::append(out, at, b"SupportedListMax"),
-        _ => write_later_word(out, at, k),
+        0 => page.print(b"txPropagationDelay"),
+        1 => page.print(b"GateEnabled"),
+        2 => page.print(b"AdminBaseTime"),
+        3 => page.print(b"AdminControlListLength"),
+        4 => page.print(b"AdminControlList"),
+        5 => page.print(b"AdminCycleTime"),
+        6 => page.print(b"TickGranularity"),
+        7 => page.print(b"SupportedListMax"),
+        8 => page.print(b"lldpV2PortConfigAdminStatusV2"),
+        9 => page.print(b"lldpV2LocChassisIdSubtype"),
+        10 => page.print(b"lldpV2LocChassisId"),
+        11 => page.print(b"lldpV2LocPortIdSubtype"),
+        12 => page.print(b"lldpV2LocPortId"),
+        13 => page.print(b"lldpV2RemChassisIdSubtype"),
+        14 => page.print(b"lldpV2RemChassisId"),
+        15 => page.print(b"lldpV2RemPortIdSubtype"),
+        16 => page.print(b"lldpV2RemPortId"),
+        17 => page.print(b"lldpTTL"),
+        18 => page.print(b"commit"),
+        _ => page.print(b"unknown"),
     }
 }
 
 // The word of a cause.
-pub fn write_cause(out: &mut [u8], at: usize, cause: u8) -> usize
-    requires { at + 14 ≤ length out.old }
-    ensures { Wrote out.old at (cause_word cause) result out.new }
+pub fn write_cause(page: &mut Page<'_>, cause: u8)
+    requires { HasRoom page.old 14 }
+    ensures { Prints page.old (cause_word cause) page.new }
 {
     match cause {
-        wire::CAUSE_NOT_SUPPORTED => octets::append(out, at, b"not-supported"),
-        wire::CAUSE_INVALID_VALUE => octets::append(out, at, b"invalid-value"),
-        wire::CAUSE_UNAVAILABLE => octets::append(out, at, b"unavailable"),
-        _ => octets::append(out, at, b"protocol-error"),
+        wire::CAUSE_NOT_SUPPORTED => page.print(b"not-supported"),
+        wire::CAUSE_INVALID_VALUE => page.print(b"invalid-value"),
+        wire::CAUSE_UNAVAILABLE => page.print(b"unavailable"),
+        _ => page.print(b"protocol-error"),
     }
 }
 
 // ---- lines of records
 
+// The kinds of a record with a value.
+#[derive(Clone, Copy, PartialEq, Eq)]
+pub enum Valued {
+    Value,
+    Update,
+    LongUpdate,
+}
+
+impl Valued {
+    fn word(self) -> &'static [u8]
+        ensures { result.now ≡ valued_word self }
+    {
+        match self {
+            Valued::Value => b"  value ",
+            Valued::Update => b"  update ",
+            Valued::LongUpdate => b"  long-update ",
+        }
+    }
+}
+
+// The kinds of a record with a cause.
+#[derive(Clone, Copy, PartialEq, Eq)]
+pub enum Failing {
+    ReadError,
+    UpdateError,
+}
+
+impl Failing {
+    fn word(self) -> &'static [u8]
+        ensures { result.now ≡ failing_word self }
+    {
+        match self {
+            Failing::ReadError => b"  read-error ",
+            Failing::UpdateError => b"  update-error ",
+        }
+    }
+}
+
 // How a record's line starts: its kind with the blanks around it, the name in four digits, the name's word.
-fn write_start(out: &mut [u8], at: usize, kind: &[u8], name: usize) -> usize
-    requires { at + (length kind.now + 34) ≤ length out.old }
-    ensures { Wrote out.old at (started kind.now name) result out.new }
+fn write_start(page: &mut Page<'_>, kind: &[u8], name: usize)
+    requires { HasRoom page.old (length kind.now + 34) }
+    ensures { Prints page.old (started kind.now name) page.new }
 {
     let spelt = [(name / 256 % 256) as u8, (name % 256) as u8];
-    let digits = octets::append(out, at, kind);
-    let end = text::write_hex(out, digits, &spelt);
-    out[end] = b' ';
-    write_word(out, end + 1, name)
+    page.print(kind);
+    text::write_hex(page, &spelt);
+    page.push(b' ');
+    write_word(page, name);
 }
 
 // A name that is listed.
-pub fn write_name(out: &mut [u8], at: usize, name: usize) -> usize
-    requires { at + 42 ≤ length out.old }
-    ensures { Wrote out.old at (record_line (a_name name)) result out.new }
+pub fn write_name(page: &mut Page<'_>, name: usize)
+    requires { HasRoom page.old 42 }
+    ensures { Prints page.old (record_line (a_name name)) page.new }
 {
-    let end = write_start(out, at, b"  name ", name);
-    out[end] = b'\n';
-    end + 1
+    write_start(page, b"  name ", name);
+    page.push(b'\n');
 }
 
-// A name and a value, which stands in the message that it was captured in.
-fn write_held(
-    out: &mut [u8],
-    at: usize,
-    kind: &[u8],
-    message: &[u8],
-    name: usize,
-    from: usize,
-    size: usize,
-) -> usize
-    requires { (from + size ≤ length message.now) × (at + (length kind.now + (size + size + 37)) ≤ length out.old) }
-    ensures { Wrote out.old at (held_line kind.now (record { name = name; value = part message.now from size })) result out.new }
+// A name and a value.
+pub fn write_held(page: &mut Page<'_>, kind: Valued, name: usize, value: &[u8])
+    requires { HasRoom page.old (length (valued_word kind) + (length value.now + length value.now + 37)) }
+    ensures { Prints page.old (record_line (valued kind (record { name = name; value = value.now }))) page.new }
 {
-    let end = write_start(out, at, kind, name);
-    out[end] = b' ';
-    let to = from + size;
-    text::write_octets(out, end + 1, &message[from..to])
-}
-
-pub fn write_value(
-    out: &mut [u8],
-    at: usize,
-    message: &[u8],
-    name: usize,
-    from: usize,
-    size: usize,
-) -> usize
-    requires { (from + size ≤ length message.now) × (at + (size + size + 45) ≤ length out.old) }
-    ensures { Wrote out.old at (record_line (a_value (record { name = name; value = part message.now from size }))) result out.new }
-{
-    write_held(out, at, b"  value ", message, name, from, size)
-}
-
-pub fn write_update(
-    out: &mut [u8],
-    at: usize,
-    message: &[u8],
-    name: usize,
-    from: usize,
-    size: usize,
-) -> usize
-    requires { (from + size ≤ length message.now) × (at + (size + size + 46) ≤ length out.old) }
-    ensures { Wrote out.old at (record_line (an_update (record { name = name; value = part message.now from size }))) result out.new }
-{
-    write_held(out, at, b"  update ", message, name, from, size)
-}
-
-pub fn write_long_update(
-    out: &mut [u8],
-    at: usize,
-    message: &[u8],
-    name: usize,
-    from: usize,
-    size: usize,
-) -> usize
-    requires { (from + size ≤ length message.now) × (at + (size + size + 51) ≤ length out.old) }
-    ensures { Wrote out.old at (record_line (a_long_update (record { name = name; value = part message.now from size }))) result out.new }
-{
-    write_held(out, at, b"  long-update ", message, name, from, size)
+    write_start(page, kind.word(), name);
+    page.push(b' ');
+    text::write_octets(page, value);
 }
 
 // A name and a cause.
-fn write_failed(out: &mut [u8], at: usize, kind: &[u8], name: usize, cause: u8) -> usize
-    requires { at + (length kind.now + 53) ≤ length out.old }
-    ensures { Wrote out.old at (failed_line kind.now (record { name = name; cause = cause })) result out.new }
+pub fn write_failed(page: &mut Page<'_>, kind: Failing, name: usize, cause: u8)
+    requires { HasRoom page.old (length (failing_word kind) + 53) }
+    ensures { Prints page.old (record_line (failing kind (record { name = name; cause = cause }))) page.new }
 {
-    let spelt = [cause];
-    let start = write_start(out, at, kind, name);
-    out[start] = b' ';
-    let digits = text::write_hex(out, start + 1, &spelt);
-    out[digits] = b' ';
-    let end = write_cause(out, digits + 1, cause);
-    out[end] = b'\n';
-    end + 1
-}
-
-pub fn write_read_error(out: &mut [u8], at: usize, name: usize, cause: u8) -> usize
-    requires { at + 66 ≤ length out.old }
-    ensures { Wrote out.old at (record_line (a_read_error (record { name = name; cause = cause }))) result out.new }
-{
-    write_failed(out, at, b"  read-error ", name, cause)
-}
-
-pub fn write_update_error(out: &mut [u8], at: usize, name: usize, cause: u8) -> usize
-    requires { at + 68 ≤ length out.old }
-    ensures { Wrote out.old at (record_line (an_update_error (record { name = name; cause = cause }))) result out.new }
-{
-    write_failed(out, at, b"  update-error ", name, cause)
+    write_start(page, kind.word(), name);
+    page.push(b' ');
+    text::write_hex(page, &[cause]);
+    page.push(b' ');
+    write_cause(page, cause);
+    page.push(b'\n');
 }
 
 // ---- other lines
 
-// What stands ahead of a reply's records, and of a notification's.
-pub fn write_complete(out: &mut [u8], at: usize) -> usize
-    requires { at + 9 ≤ length out.old }
-    ensures { Wrote out.old at complete_line result out.new }
-{
-    octets::append(out, at, b"complete\n")
+// A line of which every octet is known: what stands ahead of a reply's records, and of a notification's; and what is said of a
+// line that stands for no message.
+#[derive(Clone, Copy, PartialEq, Eq)]
+pub enum Fixed {
+    Complete,
+    Notify,
+    NotAMessage,
 }
 
-pub fn write_notify(out: &mut [u8], at: usize) -> usize
-    requires { at + 7 ≤ length out.old }
-    ensures { Wrote out.old at notify_line result out.new }
+pub fn write_fixed(page: &mut Page<'_>, which: Fixed)
+    requires { HasRoom page.old (length (fixed_line which)) }
+    ensures { Prints page.old (fixed_line which) page.new }
 {
-    octets::append(out, at, b"notify\n")
-}
-
-// For a line that stands for no message.
-pub fn write_not_a_message(out: &mut [u8], at: usize) -> usize
-    requires { at + 14 ≤ length out.old }
-    ensures { Wrote out.old at not_a_message result out.new }
-{
-    octets::append(out, at, b"not a message\n")
+    match which {
+        Fixed::Complete => page.print(b"complete\n"),
+        Fixed::Notify => page.print(b"notify\n"),
+        Fixed::NotAMessage => page.print(b"not a message\n"),
+    }
 }

@@ -24,9 +24,4 @@ write_full_line-requires c =
 
 pub returns : goal.returns
 returns c =
-    let p = c.write_full_line.ensures in
-    let w = c.written-n in
-    let n = c.number in
-    let q = c.position in
-    let e = full_answer_is c.args.outcome c.args.room.now n.result q.result w.result n.ensures q.ensures w.ensures in
-    (p.0 ∙ ap (λ (l : List ℕ). c.args.at + length l) e, p.1 ∙ ap (splice c.args.out.now c.args.at) e)
+    rw (← full_answer_is c.args.outcome c.args.room.now _ _ _ c.number.ensures c.position.ensures c.written-n.ensures) c.write_full_line.ensures

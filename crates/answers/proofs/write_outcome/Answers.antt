@@ -20,8 +20,4 @@ write_line-requires c =
     (omega (arith, c.number.ensures, number_short c.args.outcome), omega (arith, sym (length-take-le w.result c.args.room.now (omega (arith, w.ensures, c.requires.0))), w.ensures, c.requires.0, c.requires.1))
 
 pub returns : goal.returns
-returns c =
-    let p = c.write_line.ensures in
-    let w = c.written-n in
-    let e = answer_is c.args.outcome c.args.room.now c.number.result w.result c.number.ensures w.ensures in
-    (p.0 ∙ ap (λ (l : List ℕ). c.args.at + length l) e, p.1 ∙ ap (splice c.args.out.now c.args.at) e)
+returns c = rw (← answer_is c.args.outcome c.args.room.now _ _ c.number.ensures c.written-n.ensures) c.write_line.ensures

@@ -1,27 +1,12 @@
 -- `capture::number` meets its contract.
+use mathlib.Core.Path.{sym, ap, ◌∙◌}
 use Rattle.capture.specs.Handing.{number_of}
 use Rattle.capture.proofs.number.Goals as goal
 
-pub returns-in-Record : goal.returns-in-Record
+pub returns-in-Ok : goal.returns-in-Ok
 unfolding number_of
-returns-in-Record c = rw c.in-Record.is
+returns-in-Ok c = rw c.in-Ok.is
 
-pub returns-in-End : goal.returns-in-End
+pub returns-in-Err : goal.returns-in-Err
 unfolding number_of
-returns-in-End c = rw c.in-End.is
-
-pub returns-in-MessageEmpty : goal.returns-in-MessageEmpty
-unfolding number_of
-returns-in-MessageEmpty c = rw c.in-MessageEmpty.is
-
-pub returns-in-MessageTooLong : goal.returns-in-MessageTooLong
-unfolding number_of
-returns-in-MessageTooLong c = rw c.in-MessageTooLong.is
-
-pub returns-in-TypeUnknown : goal.returns-in-TypeUnknown
-unfolding number_of
-returns-in-TypeUnknown c = rw c.in-TypeUnknown.is
-
-pub returns-in-CutShort : goal.returns-in-CutShort
-unfolding number_of
-returns-in-CutShort c = rw c.in-CutShort.is
+returns-in-Err c = c.number.ensures ∙ sym (ap number_of c.in-Err.is)

@@ -7,14 +7,14 @@ use Rattle.capture.proofs.open_status.Goals as goal
 pub returns-then-p-eq0 : goal.returns-then-p-eq0
 returns-then-p-eq0 c = status_unread _ _ _ c.if-p-eq0.true
 
-pub returns-in_default : goal.returns-in_default
-returns-in_default c =
-    status_cut _ _ _ c.if-p-eq0.false (sym c.in_default.is ∙ c.counted_in.ensures)
+pub returns-in_err-counted : goal.returns-in_err-counted
+returns-in_err-counted c =
+    c.from_residual.ensures ∙ status_cut _ _ _ c.if-p-eq0.false (sym c.in_err-counted.was ∙ c.counted_in.ensures)
 
-pub returns-then-errors-p : goal.returns-then-errors-p
-returns-then-errors-p c =
-    status_over _ _ _ c.if-p-eq0.false _ _ (sym c.in-Spans.is ∙ c.counted_in.ensures) (λ x. omega arith)
+pub returns-then-counted-p : goal.returns-then-counted-p
+returns-then-counted-p c =
+    status_over _ _ _ c.if-p-eq0.false _ _ (sym c.in_ok-counted.was ∙ c.counted_in.ensures) (λ x. omega arith)
 
 pub returns : goal.returns
 returns c =
-    status_left _ _ _ c.if-p-eq0.false _ _ (sym c.in-Spans.is ∙ c.counted_in.ensures) c.if-errors-p.false
+    status_left _ _ _ c.if-p-eq0.false _ _ (sym c.in_ok-counted.was ∙ c.counted_in.ensures) c.if-counted-p.false

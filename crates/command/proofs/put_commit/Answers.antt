@@ -14,7 +14,7 @@ use Rattle.meaning.specs.Step.{block, commits}
 use Rattle.schedule.specs.Rules.{fit_together}
 use Rattle.schedule.proofs.Blocks.{fit_is}
 use Rattle.memory.proofs.Running.{fills}
-use Rattle.command.proofs.Sets.{long_of, FourPermitted, four_permitted, FourLengths, four_lengths, commit_unset, commit_unfit, commit-sums, block_found, one_length}
+use Rattle.command.proofs.Sets.{FourPermitted, four_permitted, FourLengths, four_lengths, commit_unset, commit_unfit, commit-sums, block_found, one_length}
 use Rattle.command.proofs.put_commit.Goals as goal
 use Rattle.command.proofs.put_commit.Goals.{After-room-ratio}
 
@@ -70,25 +70,13 @@ module _ (c : After-room-ratio) where
       ∙ ap (λ (k : List ℕ). eqb (length c.args.v.now) 4 && same c.args.v.now (sums k)) found
       ∙ sym (commit-sums copy c.args.v.now four (sym (fit true h)))
 
-pub four_present-requires : goal.four_present-requires
-four_present-requires c = long_of _ c.requires
-
 pub returns-then-not-four_present : goal.returns-then-not-four_present
 returns-then-not-four_present c =
     let f : four_present c.args.m.now ≡ false = sym c.four_present.ensures ∙ c.if-not-four_present.true in
     rw (commit_unset c.args.m.now c.args.v.now f) (refl, refl)
 
-pub room-base-requires : goal.room-base-requires
-room-base-requires c = long_of _ c.requires
-
-pub room-count-requires : goal.room-count-requires
-room-count-requires c = long_of _ c.requires
-
 pub body-list-requires : goal.body-list-requires
-body-list-requires c = (long_of _ c.requires, omega arith)
-
-pub room-ratio-requires : goal.room-ratio-requires
-room-ratio-requires c = long_of _ c.requires
+body-list-requires c = omega arith
 
 pub fit_together-requires : goal.fit_together-requires
 fit_together-requires c =
@@ -109,7 +97,7 @@ returns-then-not-sums_agree c =
 pub store_block-requires : goal.store_block-requires
 store_block-requires c =
     let l = lengths (goal.at.store_block-requires c).After-room-ratio in
-    (long_of _ c.requires, l.base, l.count, l.ratio)
+    (l.base, l.count, l.ratio)
 
 pub returns : goal.returns
 returns c =

@@ -6,7 +6,7 @@ use Rattle.meaning.specs.Block.{permits}
 use Rattle.meaning.specs.Profile.{release18}
 use Rattle.meaning.specs.Step.{permitted}
 use Rattle.meaning.proofs.Kept.{permits-most}
-use Rattle.command.proofs.Sets.{long_of, permitted-commit, permitted-row, unspared}
+use Rattle.command.proofs.Sets.{permitted-commit, permitted-row, unspared}
 use Rattle.command.proofs.put_value.Goals as goal
 
 pub returns-then-k-eq-COMMIT : goal.returns-then-k-eq-COMMIT
@@ -25,7 +25,7 @@ returns-then-not-permits c =
 pub store-requires : goal.store-requires
 store-requires c =
     let p : permits (row_at c.args.k) c.args.v.now ≡ true = sym c.permits.ensures ∙ c.if-not-permits.false in
-    (long_of _ c.requires.0, c.requires.1, permits-most _ _ p)
+    (c.requires.1, permits-most _ _ p)
 
 pub returns : goal.returns
 returns c =

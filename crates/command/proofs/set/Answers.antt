@@ -8,4 +8,4 @@ returns-then-profile-eq-RELEASE_16 c = rw c.if-profile-eq-RELEASE_16.true c.set_
 pub returns : goal.returns
 returns c =
     let a = c.args in
-    as_eighteen a.profile a.m.now a.name _ c.if-profile-eq-RELEASE_16.false c.set_full.ensures
+    as_eighteen a.profile a.m.now a.v.name _ c.if-profile-eq-RELEASE_16.false c.set_full.ensures

@@ -1,18 +1,18 @@
 -- `command::subscribe` meets its contract.
-use mathlib.Core.Path.{sym, ◌∙◌}
-use Rattle.command.proofs.Sets.{lists-place, subscribe-listed, subscribe_unlisted}
+use mathlib.Core.Path.{refl, sym, ◌∙◌}
+use Rattle.command.proofs.Sets.{lists-place, place_listed, place_unlisted, subscribe-listed, subscribe_unlisted}
 use Rattle.command.proofs.subscribe.Goals as goal
 
 pub subscribe-requires : goal.subscribe-requires
-subscribe-requires c =
-    (c.requires, lists-place _ _ (sym c.lists.ensures ∙ c.if-lists.true))
+subscribe-requires c = lists-place _ _ (place_listed _ _ _ (sym c.in-Some.is ∙ c.listed_place.ensures)).0
 
-pub returns-then-lists : goal.returns-then-lists
-returns-then-lists c =
+pub returns-in-Some : goal.returns-in-Some
+returns-in-Some c =
     let a = c.args in
-    subscribe-listed a.profile a.m.now a.name _ c.place_of-k.ensures (sym c.lists.ensures ∙ c.if-lists.true) c.subscribe.ensures
+    let e = place_listed _ _ _ (sym c.in-Some.is ∙ c.listed_place.ensures) in
+    subscribe-listed a.profile a.m.now a.name _ e.1 e.0 c.subscribe.ensures
 
-pub returns-else-lists : goal.returns-else-lists
-returns-else-lists c =
+pub returns-in_default : goal.returns-in_default
+returns-in_default c =
     let a = c.args in
-    subscribe_unlisted a.profile a.m.now a.name _ c.place_of-k.ensures (sym c.lists.ensures ∙ c.if-lists.false)
+    subscribe_unlisted a.profile a.m.now a.name _ refl (place_unlisted _ _ (sym c.in_default.is ∙ c.listed_place.ensures))

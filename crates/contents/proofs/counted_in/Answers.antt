@@ -7,20 +7,20 @@ use Rattle.contents.proofs.counted_in.Goals as goal
 pub returns-then-to-from : goal.returns-then-to-from
 returns-then-to-from c = no_count_lem _ _ _ (omega arith) (omega arith) c.if-to-from.true
 
-pub returns-in_default : goal.returns-in_default
-returns-in_default c =
-    values_cut _ _ _ (omega arith) (omega arith) c.if-to-from.false (sym c.in_default.is ∙ c.pass.ensures)
+pub returns-in_err-second : goal.returns-in_err-second
+returns-in_err-second c =
+    c.from_residual.ensures ∙ values_cut _ _ _ (omega arith) (omega arith) c.if-to-from.false (sym c.in_err-second.was ∙ c.pass.ensures)
 
 pub returns-then-to-second : goal.returns-then-to-second
 returns-then-to-second c =
-    no_second-count _ _ _ (omega arith) (omega arith) c.if-to-from.false _ (sym c.in-At.is ∙ c.pass.ensures) c.if-to-second.true
+    no_second-count _ _ _ (omega arith) (omega arith) c.if-to-from.false _ (sym c.in_ok-second.was ∙ c.pass.ensures) c.if-to-second.true
 
 pub returns-then-to-errors : goal.returns-then-to-errors
 returns-then-to-errors c =
-    no_errors _ _ _ (omega arith) (omega arith) c.if-to-from.false _ (sym c.in-At.is ∙ c.pass.ensures)
-    _ c.if-to-second.false c.wide-n.ensures.0 c.if-to-errors.true
+    no_errors _ _ _ (omega arith) (omega arith) c.if-to-from.false _ (sym c.in_ok-second.was ∙ c.pass.ensures)
+    _ c.if-to-second.false c.from-n.ensures c.if-to-errors.true
 
 pub returns : goal.returns
 returns c =
-    both_there _ _ _ (omega arith) (omega arith) c.if-to-from.false _ (sym c.in-At.is ∙ c.pass.ensures)
-    _ c.if-to-second.false c.wide-n.ensures.0 c.if-to-errors.false
+    both_there _ _ _ (omega arith) (omega arith) c.if-to-from.false _ (sym c.in_ok-second.was ∙ c.pass.ensures)
+    _ c.if-to-second.false c.from-n.ensures c.if-to-errors.false

@@ -6,14 +6,14 @@ use Rattle.contents.proofs.keep.Goals as goal
 pub returns-then-id-k : goal.returns-then-id-k
 returns-then-id-k c = keep-below _ _ _ (omega arith)
 
-pub returns-else-id-eq-ELEMENT_UPDATE_RESULT : goal.returns-else-id-eq-ELEMENT_UPDATE_RESULT
-returns-else-id-eq-ELEMENT_UPDATE_RESULT c = keep_unknown _ _ _ c.if-id-eq-ELEMENT_CAPABILITY.false c.if-id-eq-ELEMENT_STATUS.false c.if-id-eq-ELEMENT_UPDATE_RESULT.false
+pub returns-in-112 : goal.returns-in-112
+returns-in-112 c = keep-names _ _ _ c.if-id-k.false c.in-112.is
 
-pub returns-then-id-eq-ELEMENT_CAPABILITY : goal.returns-then-id-eq-ELEMENT_CAPABILITY
-returns-then-id-eq-ELEMENT_CAPABILITY c = keep-names _ _ _ c.if-id-k.false c.if-id-eq-ELEMENT_CAPABILITY.true
+pub returns-in-113 : goal.returns-in-113
+returns-in-113 c = keep-status _ _ _ c.if-id-k.false c.in-113.is
 
-pub returns-then-id-eq-ELEMENT_STATUS : goal.returns-then-id-eq-ELEMENT_STATUS
-returns-then-id-eq-ELEMENT_STATUS c = keep-status _ _ _ c.if-id-k.false c.if-id-eq-ELEMENT_STATUS.true
+pub returns-in-114 : goal.returns-in-114
+returns-in-114 c = keep-result _ _ _ c.if-id-k.false c.in-114.is
 
-pub returns-then-id-eq-ELEMENT_UPDATE_RESULT : goal.returns-then-id-eq-ELEMENT_UPDATE_RESULT
-returns-then-id-eq-ELEMENT_UPDATE_RESULT c = keep-result _ _ _ c.if-id-k.false c.if-id-eq-ELEMENT_UPDATE_RESULT.true
+pub returns-in_default : goal.returns-in_default
+returns-in_default c = keep_unknown _ _ _ (λ e. omega arith) (λ e. omega arith) (λ e. omega arith)

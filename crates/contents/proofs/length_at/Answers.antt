@@ -8,7 +8,7 @@ pub returns-then-w-eq2 : goal.returns-then-w-eq2
 returns-then-w-eq2 c = (c.get16.ensures.0 ∙ spells_two _ _ _ c.if-w-eq2.true (omega arith), c.get16.ensures.1)
 
 pub returns-then-w-eq1 : goal.returns-then-w-eq1
-returns-then-w-eq1 c = (c.wide.ensures.0 ∙ spells_one _ _ _ c.if-w-eq1.true (omega arith), omega arith)
+returns-then-w-eq1 c = (c.from.ensures ∙ spells_one _ _ _ c.if-w-eq1.true (omega arith), omega arith)
 
 pub returns : goal.returns
 returns c = (spells_none _ _ _ (omega arith), omega arith)

@@ -1,11 +1,8 @@
 -- `contents::pass` meets its contract. The values left from the next place on end where all end.
-use Prim.Native.Nat.{◌≤◌}
+use Prim.Native.Nat.{◌-◌, ◌≤◌}
 use mathlib.Core.Path.{◌≡◌}
 use Rattle.contents.proofs.Records.{end_of}
 use Rattle.contents.proofs.pass.Given as goal
 
-abbrev pub invariant-loop-left : goal.invariant-loop-left
-invariant-loop-left l = (l.at ≤ l.next) × (l.next ≤ l.to) × (end_of l.s l.next l.to l.w l.left ≡ end_of l.s l.at l.to l.w l.n)
-
-abbrev pub decreases-loop-left : goal.decreases-loop-left
-decreases-loop-left l = l.left
+abbrev pub invariant-loop : goal.invariant-loop
+invariant-loop l = (l.at ≤ l.next) × (l.next ≤ l.to) × (end_of l.s l.next l.to l.w (l.n - l.counter) ≡ end_of l.s l.at l.to l.w l.n)

@@ -13,12 +13,12 @@ returns-in_default c =
 
 pub loop-next-smaller : goal.loop-next-smaller
 loop-next-smaller c =
-    let f = whole_on _ _ _ (omega arith) c.loop-next-test.true _ (sym c.in-At.is ∙ c.pass.ensures) in
+    let f = whole_on _ _ _ (omega arith) c.loop-next-test.true _ (sym c.in-Some.is ∙ c.pass.ensures) in
     omega (arith, f.1, f.2)
 
 pub loop-next-preserved : goal.loop-next-preserved
 loop-next-preserved c =
-    let f = whole_on _ _ _ (omega arith) c.loop-next-test.true _ (sym c.in-At.is ∙ c.pass.ensures) in
+    let f = whole_on _ _ _ (omega arith) c.loop-next-test.true _ (sym c.in-Some.is ∙ c.pass.ensures) in
     (omega (arith, f.1), f.2, f.0 ∙ c.loop-next.invariant.2)
 
 pub returns : goal.returns

@@ -7,13 +7,11 @@ use Rattle.meaning.specs.Table.{entry_count}
 use Rattle.meaning.specs.Memory.{set_timer, waiting}
 use Rattle.meaning.specs.Calls.{notification, when_sent, turned}
 use Rattle.meaning.proofs.Timer.{build_does}
-use Rattle.meaning.proofs.Sound.{opened}
 use Rattle.meaning.proofs.Profiles.{in_sound}
 use Rattle.meaning.proofs.Numbers.{build_11, build_10}
 use Rattle.records.proofs.Pieces.{at_start}
 use Rattle.notification.proofs.Reported.{due_small, none_counted, some_counted}
-use Rattle.endpoint.specs.Outcomes.{number_of, length_of, position_of}
-use Rattle.endpoint.specs.declared.Outcome.TheVariants.{NotificationRoomTooSmall, AlreadyWaiting, NothingPending}
+use Rattle.endpoint.specs.declared.Refusal.TheVariants.{NotificationRoomTooSmall, AlreadyWaiting, NothingPending}
 use Rattle.endpoint.proofs.Exits.{gives_done, gives_number, build_nothing}
 use Rattle.endpoint.proofs.build_due.Goals as goal
 use Rattle.endpoint.proofs.build_due.Goals.{Else-waiting}
@@ -22,22 +20,14 @@ idle : (c : Else-waiting) → waiting c.args.memory.now ≡ false
 idle c = sym c.waiting.ensures ∙ c.if-waiting.false
 
 pub returns-then-room-lt-NOTIFICATION_ROOM : goal.returns-then-room-lt-NOTIFICATION_ROOM
-unfolding number_of length_of position_of
 returns-then-room-lt-NOTIFICATION_ROOM c =
     let a = c.args in
-    gives_number a.memory.now a.room.now 11 NotificationRoomTooSmall (build_11 _ a.memory.now a.room.now c.requires c.if-room-lt-NOTIFICATION_ROOM.true) refl refl refl
-
-pub waiting-requires : goal.waiting-requires
-waiting-requires c = (opened _ (in_sound _ _ c.requires)).long
+    gives_number a.memory.now a.room.now 11 NotificationRoomTooSmall (build_11 _ a.memory.now a.room.now c.requires c.if-room-lt-NOTIFICATION_ROOM.true) refl refl
 
 pub returns-then-waiting : goal.returns-then-waiting
-unfolding number_of length_of position_of
 returns-then-waiting c =
     let a = c.args in
-    gives_number a.memory.now a.room.now 10 AlreadyWaiting (build_10 _ a.memory.now a.room.now c.requires c.if-room-lt-NOTIFICATION_ROOM.false (sym c.waiting.ensures ∙ c.if-waiting.true)) refl refl refl
-
-pub count-due-requires : goal.count-due-requires
-count-due-requires c = (opened _ (in_sound _ _ c.requires)).long
+    gives_number a.memory.now a.room.now 10 AlreadyWaiting (build_10 _ a.memory.now a.room.now c.requires c.if-room-lt-NOTIFICATION_ROOM.false (sym c.waiting.ensures ∙ c.if-waiting.true)) refl refl
 
 pub overflow_add-due : goal.overflow_add-due
 overflow_add-due c =
@@ -46,20 +36,15 @@ overflow_add-due c =
     omega (arith, d.1, d.2)
 
 pub returns-then-due-eq0 : goal.returns-then-due-eq0
-unfolding number_of length_of position_of
 returns-then-due-eq0 c =
     let n = c.count-due in
     let a = c.args in
     gives_number a.memory.now a.room.now 9 NothingPending
-    (build_nothing _ a.memory.now a.room.now c.requires c.if-room-lt-NOTIFICATION_ROOM.false (idle (goal.at.returns-then-due-eq0 c).Else-waiting) (none_counted a.profile a.memory.now n.result (n.ensures _) c.if-due-eq0.true)) refl refl refl
+    (build_nothing _ a.memory.now a.room.now c.requires c.if-room-lt-NOTIFICATION_ROOM.false (idle (goal.at.returns-then-due-eq0 c).Else-waiting) (none_counted a.profile a.memory.now n.result (n.ensures _) c.if-due-eq0.true)) refl refl
 
 pub write-end-requires : goal.write-end-requires
 write-end-requires c =
     (in_sound _ _ c.requires, c.count-due.ensures _, c.if-room-lt-NOTIFICATION_ROOM.false)
-
-pub begin_wait-requires : goal.begin_wait-requires
-begin_wait-requires c =
-    (opened _ (in_sound _ _ c.requires)).long
 
 pub returns : goal.returns
 returns c =

@@ -15,8 +15,7 @@ use Rattle.command.specs.Answers.{any_change}
 use Rattle.tally.specs.declared.Tally.{Tally}
 use Rattle.tally.specs.Tallies.{tally_of, reply_length, tally_fits}
 use Rattle.tally.proofs.Lengths.{reply-length, tally_fits_lem}
-use Rattle.endpoint.specs.Outcomes.{number_of, length_of, position_of}
-use Rattle.endpoint.specs.declared.Outcome.TheVariants.{ReplyDoesNotFit}
+use Rattle.endpoint.specs.declared.Refusal.TheVariants.{ReplyDoesNotFit}
 use Rattle.endpoint.proofs.Exits.{gives_number, gives_done, command-fits, command_7}
 use Rattle.endpoint.proofs.carry_out.Goals as goal
 use Rattle.endpoint.proofs.carry_out.Goals.{Start}
@@ -55,11 +54,10 @@ module _ (c : Start) where
     unchanged changed f e = sym (is ∙ after_unchanged profile memory operations (sym f ∙ e))
 
 pub returns-then-not-fits : goal.returns-then-not-fits
-unfolding number_of length_of position_of
 returns-then-not-fits c =
     let s = (goal.at.returns-then-not-fits c).Start in
     let t = tested s _ _ c.take-taken.ensures.tally_value c.reply_length-n.ensures _ c.fits.ensures in
-    gives_number (memory s) (room s) 7 ReplyDoesNotFit (command_7 (profile s) (memory s) c.args.list.now (room s) (t ∙ c.if-not-fits.true)) refl refl refl
+    gives_number (memory s) (room s) 7 ReplyDoesNotFit (command_7 (profile s) (memory s) c.args.list.now (room s) (t ∙ c.if-not-fits.true)) refl refl
 
 pub write-requires : goal.write-requires
 write-requires c =

@@ -2,12 +2,12 @@
 use native.Mathlib.Omega.{arith}
 use mathlib.Core.Path.{◌≡◌, refl, sym, ◌∙◌}
 use mathlib.Core.Bool.{true}
-use mathlib.Core.List.{[]}
+use Rattle.std.proofs.lemmas.Option.{MatchOption-at_some}
 use Rattle.meaning.specs.FormB.{sound_form_b}
 use Rattle.meaning.proofs.Profiles.{in_sound}
 use Rattle.meaning.proofs.Sendings.{take_expiry, gives}
 use Rattle.meaning.proofs.Formed.{gives_lent, asks_form, room_of}
-use Rattle.endpoint.proofs.Lent.{form-long, rest_in, gives_formed, gives_unsound}
+use Rattle.endpoint.proofs.Lent.{form-long, taken_apart, behind-in, gives_formed, gives_unsound}
 use Rattle.endpoint.proofs.expiry.Goals as goal
 use Rattle.endpoint.proofs.expiry.Goals.{Else-not-sound_form_b}
 
@@ -19,14 +19,25 @@ unfolding gives_lent asks_form room_of
 returns-then-not-sound_form_b c =
     gives_unsound c.args.memory.now take_expiry refl (sym c.sound_form_b.ensures ∙ c.if-not-sound_form_b.true)
 
-pub slice_bounds-take_expiry-end : goal.slice_bounds-take_expiry-end
-slice_bounds-take_expiry-end c = omega (arith, form-long _ (tested c))
+pub unwrap-requires : goal.unwrap-requires
+unwrap-requires c = c.split_first_mut.ensures.variant.1 (omega (arith, form-long _ (tested (goal.at.unwrap-requires c).Else-not-sound_form_b)))
+
+pub unwrap-requires-2 : goal.unwrap-requires-2
+unwrap-requires-2 c =
+    let f = MatchOption-at_some _ _ _ c.unwrap.ensures c.split_first_mut.ensures.cases in
+    c.as_mut_array.ensures.variant.1 (omega (arith, f.1, form-long _ (tested (goal.at.unwrap-requires-2 c).Else-not-sound_form_b)))
 
 pub take_expiry-requires : goal.take_expiry-requires
-take_expiry-requires c = in_sound _ _ (rest_in _ (tested (goal.at.take_expiry-requires c).Else-not-sound_form_b))
+take_expiry-requires c =
+    let f = MatchOption-at_some _ _ _ c.unwrap.ensures c.split_first_mut.ensures.cases in
+    let m = MatchOption-at_some _ _ _ c.unwrap-2.ensures c.as_mut_array.ensures.cases in
+    in_sound _ _ (behind-in _ _ (rw (taken_apart _ _ _ _ f m) at (tested (goal.at.take_expiry-requires c).Else-not-sound_form_b)))
 
 pub returns : goal.returns
 unfolding gives gives_lent
 returns c =
-    let places = goal.at.returns c in
-    gives_formed c.args.memory.now (tested places.Else-not-sound_form_b) take_expiry c.take_expiry.result c.take_expiry.new.memory [] c.take_expiry.auto.memory (c.take_expiry.ensures _ (rest_in _ (tested places.Else-not-sound_form_b)))
+    let f = MatchOption-at_some _ _ _ c.unwrap.ensures c.split_first_mut.ensures.cases in
+    let m = MatchOption-at_some _ _ _ c.unwrap-2.ensures c.as_mut_array.ensures.cases in
+    let e = taken_apart _ _ _ _ f m in
+    let s = rw e at (tested (goal.at.returns c).Else-not-sound_form_b) in
+    rw e (gives_formed _ _ s take_expiry (c.take_expiry.ensures _ (behind-in _ _ s)))

@@ -6,7 +6,7 @@ use lib.IntN.{pos}
 use lib.Signed.{lt_z}
 use mir.Facts.{to_z-of_z}
 use Rattle.meaning.specs.Block.{cycle, ratio_of}
-use Rattle.gates.specs.Answers.{answer_of}
+use Rattle.gates.specs.Answers.{told}
 use Rattle.gates.proofs.Asked.{long_enough, ratio-right, cycle_runs, list_right, cast_right, not_started_lem, started}
 use Rattle.gates.proofs.ask.Goals as goal
 use Rattle.gates.proofs.ask.Goals.{After-cycle-cycle, Else-instant-lt0}
@@ -20,7 +20,7 @@ cycle-is : (c : After-cycle-cycle) → c.cycle-cycle.result ≡ cycle (ratio_of 
 cycle-is c = c.cycle-cycle.ensures ∙ ap cycle c.ratio_of.ensures.0
 
 pub returns-then-instant-lt0 : goal.returns-then-instant-lt0
-unfolding answer_of
+unfolding told
 returns-then-instant-lt0 c =
     not_started_lem _ c.args.instant (rw (to_z-of_z c.ranges.instant) at c.if-instant-lt0.true)
 

@@ -1,13 +1,6 @@
 -- `memory::flags_with` meets its contract.
-use native.Mathlib.Omega.{arith}
 use Rattle.memory.proofs.Masks.{flags_with}
 use Rattle.memory.proofs.flags_with.Goals as goal
-
-pub overflow_add-result : goal.overflow_add-result
-overflow_add-result c = omega (arith, c.flags-f.ensures.1, c.bit.ensures.1)
-
-pub overflow_add-result-2 : goal.overflow_add-result-2
-overflow_add-result-2 c = omega (arith, c.flags-f.ensures.1, c.bit.ensures.1, c.bit-2.ensures.1)
 
 pub returns : goal.returns
 returns c =

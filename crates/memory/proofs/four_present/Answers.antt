@@ -6,4 +6,4 @@ use Rattle.memory.proofs.four_present.Goals as goal
 
 pub returns : goal.returns
 unfolding four_present every
-returns c = rw (c.present.ensures, c.present-2.ensures, c.present-3.ensures, c.present-4.ensures, and-true)
+returns c = rw (c.has.ensures, c.has-2.ensures, c.has-3.ensures, c.has-4.ensures, and-true)

@@ -3,14 +3,13 @@ use Prim.Native.Nat.{ℕ}
 use native.Mathlib.Omega.{arith}
 use mathlib.Core.Path.{ap, ◌∙◌}
 use mathlib.Core.List.{List}
-use borrow.Author.Rules.{rules}
 use Rattle.meaning.specs.Memory.{put_room, put}
 use Rattle.meaning.proofs.Places.{most-small}
 use Rattle.memory.proofs.put.Goals as goal
 
 pub put_cell-requires : goal.put_cell-requires
 put_cell-requires c =
-    (search rules, c.requires.1, omega (arith, c.requires.2, most-small c.args.k c.requires.1))
+    (c.requires.0, omega (arith, c.requires.1, most-small c.args.k c.requires.0))
 
 pub returns : goal.returns
 unfolding put

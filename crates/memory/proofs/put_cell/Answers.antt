@@ -14,7 +14,7 @@ pub write_cell-requires : goal.write_cell-requires
 write_cell-requires c =
     let r = c.row_at-row in
     let at = 6 * c.args.k in
-    (mid_len at (at + 6) c.args.m.now (omega (arith, c.requires.0, c.requires.1)) ∙ omega arith, omega (arith, name_is r.result (row_at c.args.k) r.ensures.0, name-small c.args.k c.requires.1), c.requires.2)
+    (mid_len at (at + 6) c.args.m.now (omega (arith, c.requires.0)) ∙ omega arith, omega (arith, name_is r.result (row_at c.args.k) r.ensures.0, name-small c.args.k c.requires.0), c.requires.1)
 
 pub returns : goal.returns
 unfolding cell_of

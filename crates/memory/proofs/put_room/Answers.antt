@@ -10,13 +10,13 @@ use Rattle.memory.proofs.put_room.Goals as goal
 pub fill-requires : goal.fill-requires
 fill-requires c =
     let r = c.row_at-row in
-    let n = mid_len r.result.start (r.result.start + r.result.most) c.args.m.now (omega (arith, r.ensures.2, c.requires.0)) in
-    omega (arith, n, most_is r.result (row_at c.args.k) r.ensures.0, c.requires.1)
+    let n = mid_len r.result.start (r.result.start + r.result.most) c.args.m.now (omega (arith, r.ensures.2)) in
+    omega (arith, n, most_is r.result (row_at c.args.k) r.ensures.0, c.requires)
 
 pub returns : goal.returns
 returns c =
     let a = c.args in
     let r = c.row_at-row in
     let e = most_is r.result (row_at a.k) r.ensures.0 in
-    let n = mid_len r.result.start (r.result.start + r.result.most) a.m.now (omega (arith, r.ensures.2, c.requires.0)) in
-    room_back a.m.now _ a.v.now a.k r.result.start r.result.most _ r.ensures.1 e n c.requires.1 c.fill.ensures
+    let n = mid_len r.result.start (r.result.start + r.result.most) a.m.now (omega (arith, r.ensures.2)) in
+    room_back a.m.now _ a.v.now a.k r.result.start r.result.most _ r.ensures.1 e n c.requires c.fill.ensures

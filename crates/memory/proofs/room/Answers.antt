@@ -16,4 +16,4 @@ returns c =
     let m = c.args.m.now in
     let e = most_is r.result (row_at c.args.k) r.ensures.0 in
     let p = part_is m r.result.start r.result.most in
-    (p ∙ rw (r.ensures.1, e), ap length p ∙ length_part m r.result.start r.result.most (omega (arith, r.ensures.2, c.requires)) ∙ e)
+    (p ∙ rw (r.ensures.1, e), ap length p ∙ length_part m r.result.start r.result.most (omega (arith, r.ensures.2, c.told-m)) ∙ e)

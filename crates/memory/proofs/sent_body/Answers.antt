@@ -1,20 +1,15 @@
 -- `memory::sent_body` meets its contract.
-use mathlib.Core.Path.{sym, ap₂, ◌∙◌}
-use lib.ListN.{length, drop, drop_of_length-le}
-use lib.Seq.{drop-length}
+use Prim.Native.Nat.{ℕ}
+use mathlib.Core.Path.{ap, ap₂, ◌∙◌}
+use lib.ListN.{drop}
+use Rattle.std.proofs.lemmas.List.{drop_min}
 use Rattle.meaning.specs.Profile.{on_wire}
 use Rattle.octets.proofs.Splices.{rest_is_lem}
 use Rattle.memory.proofs.sent_body.Goals as goal
 
-pub returns-then-spare-v : goal.returns-then-spare-v
+pub returns : goal.returns
 unfolding on_wire
-returns-then-spare-v c =
+returns c =
     let v = c.body-v.result.now in
-    rest_is_lem v c.spared-spare.result ∙ ap₂ drop c.spared-spare.ensures.0 c.body-v.ensures
-
-pub returns-else-spare-v : goal.returns-else-spare-v
-unfolding on_wire
-returns-else-spare-v c =
-    let v = c.body-v.result.now in
-    rest_is_lem v (length v) ∙ drop-length v ∙ sym (drop_of_length-le v c.if-spare-v.false)
-    ∙ ap₂ drop c.spared-spare.ensures.0 c.body-v.ensures
+    let spare = c.spared-spare in
+    rest_is_lem v c.min.result ∙ ap (λ (n : ℕ). drop n v) c.min.ensures ∙ drop_min spare.result v ∙ ap₂ drop spare.ensures.0 c.body-v.ensures

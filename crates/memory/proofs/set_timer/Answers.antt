@@ -6,4 +6,4 @@ use Rattle.memory.proofs.set_timer.Goals as goal
 
 pub returns : goal.returns
 unfolding set_timer
-returns c = two_stores c.args.m.now 114 c.args.waiting c.args.expiries (omega (arith, c.requires))
+returns c = two_stores c.args.m.now 114 c.args.waiting c.args.expiries (omega (arith, c.told-m))

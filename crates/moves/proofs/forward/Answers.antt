@@ -7,8 +7,7 @@ use lib.ListN.{length-set}
 use Rattle.meaning.specs.Moves.{sound_old}
 use Rattle.meaning.proofs.Sound.{opened}
 use Rattle.meaning.proofs.Moved.{old_sound, forward_1, forward_16, forward-done}
-use Rattle.moves.specs.declared.Moved.TheVariants.{MemoryUnsound, RoomNotExact}
-use Rattle.moves.specs.Moved.{number_of, length_of}
+use Rattle.moves.specs.declared.Refusal.TheVariants.{MemoryUnsound, RoomNotExact}
 use Rattle.moves.proofs.Rooms.{gives_number, gives_moved, filled_behind}
 use Rattle.moves.proofs.forward.Goals as goal
 use Rattle.moves.proofs.forward.Goals.{Else-not-sound_old}
@@ -17,16 +16,14 @@ tested : (c : Else-not-sound_old) → sound_old c.args.memory.now ≡ true
 tested c = sym c.sound_old.ensures ∙ c.if-not-sound_old.false
 
 pub returns-then-not-sound_old : goal.returns-then-not-sound_old
-unfolding number_of length_of
 returns-then-not-sound_old c =
     let a = c.args in
-    gives_number a.memory.now a.room.now 1 MemoryUnsound (forward_1 a.memory.now a.room.now (sym c.sound_old.ensures ∙ c.if-not-sound_old.true)) refl refl
+    gives_number a.memory.now a.room.now 1 MemoryUnsound (forward_1 a.memory.now a.room.now (sym c.sound_old.ensures ∙ c.if-not-sound_old.true)) refl
 
 pub returns-then-room-ne-FORM_B_LENGTH : goal.returns-then-room-ne-FORM_B_LENGTH
-unfolding number_of length_of
 returns-then-room-ne-FORM_B_LENGTH c =
     let a = c.args in
-    gives_number a.memory.now a.room.now 16 RoomNotExact (forward_16 a.memory.now a.room.now (tested (goal.at.returns-then-room-ne-FORM_B_LENGTH c).Else-not-sound_old) c.if-room-ne-FORM_B_LENGTH.true) refl refl
+    gives_number a.memory.now a.room.now 16 RoomNotExact (forward_16 a.memory.now a.room.now (tested (goal.at.returns-then-room-ne-FORM_B_LENGTH c).Else-not-sound_old) c.if-room-ne-FORM_B_LENGTH.true) refl
 
 pub append-requires : goal.append-requires
 append-requires c =

@@ -1,8 +1,7 @@
 -- `notification::count` meets its contract.
 use Prim.Native.Nat.{ℕ}
 use native.Mathlib.Omega.{arith}
-use mathlib.Core.Path.{◌≡◌, refl, ap, ◌∙◌}
-use borrow.Author.Rules.{rules}
+use mathlib.Core.Path.{◌≡◌, ap, ◌∙◌}
 use Rattle.meaning.specs.Octets.{flat}
 use Rattle.meaning.specs.Profile.{release18}
 use Rattle.meaning.specs.Reply.{gathered}
@@ -14,21 +13,23 @@ use Rattle.notification.proofs.count.Goals as goal
 
 pub loop-k-init : goal.loop-k-init
 unfolding reports due_of part_of gathered flat
-loop-k-init c = (search rules, λ p. refl)
+loop-k-init c p =
+    let e = c.default-d.ensures in
+    λ i. record { values = e.0 i; octets = e.1.0 i; absent = e.1.1 i }
 
 pub with_entry-d-requires : goal.with_entry-d-requires
 with_entry-d-requires c =
     let l = c.loop-k in
-    (c.requires, c.loop-k-test.true, few_before release18 c.args.m.now l.k _ c.loop-k-test.true (l.invariant.1 release18))
+    (c.loop-k-test.true, few_before release18 c.args.m.now l.k _ c.loop-k-test.true (l.invariant release18))
 
 pub loop-k-preserved : goal.loop-k-preserved
-loop-k-preserved c =
+loop-k-preserved c p =
     let l = c.loop-k in
     let m = c.args.m.now in
-    (search rules, λ p. c.with_entry-d.ensures p ∙ ap (λ (d : Due). more d (due_at p m l.k)) (l.invariant.1 p) ∙ due_next p m l.k)
+    c.with_entry-d.ensures p ∙ ap (λ (d : Due). more d (due_at p m l.k)) (l.invariant p) ∙ due_next p m l.k
 
 pub returns : goal.returns
 returns c p =
     let l = c.loop-k in
-    let z : l.k ≡ 19 = omega (arith, l.invariant.0, c.loop-k-test.false) in
-    l.invariant.1 p ∙ ap (λ (k : ℕ). due_of (reports p c.args.m.now k)) z
+    let z : l.k ≡ 19 = omega (arith, l.auto.k-end, c.loop-k-test.false) in
+    l.invariant p ∙ ap (λ (k : ℕ). due_of (reports p c.args.m.now k)) z

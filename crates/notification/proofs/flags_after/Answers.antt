@@ -11,10 +11,10 @@ pub returns-in-Acknowledged : goal.returns-in-Acknowledged
 unfolding moment_of
 returns-in-Acknowledged c = rw c.in-Acknowledged.is (acknowledged c.args.f c.requires)
 
-pub returns-then-f-lt-IN_FLIGHT : goal.returns-then-f-lt-IN_FLIGHT
+pub returns-in-GivenUp : goal.returns-in-GivenUp
 unfolding moment_of
-returns-then-f-lt-IN_FLIGHT c = rw c.in-GivenUp.is (given_up_kept c.args.f c.requires c.if-f-lt-IN_FLIGHT.true)
+returns-in-GivenUp c = rw c.in-GivenUp.is (given_up_kept c.args.f c.requires c.if-f-lt-IN_FLIGHT.true)
 
-pub returns-else-f-lt-IN_FLIGHT : goal.returns-else-f-lt-IN_FLIGHT
+pub returns-in-GivenUp-2 : goal.returns-in-GivenUp-2
 unfolding moment_of
-returns-else-f-lt-IN_FLIGHT c = rw c.in-GivenUp.is (given_up_turned c.args.f c.requires c.if-f-lt-IN_FLIGHT.false)
+returns-in-GivenUp-2 c = rw c.in-GivenUp.is (given_up_turned c.args.f c.requires c.if-f-lt-IN_FLIGHT.false)

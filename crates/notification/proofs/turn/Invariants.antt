@@ -1,13 +1,8 @@
 -- `notification::turn` meets its contract.
-use Prim.Native.Nat.{◌-◌, ◌≤◌}
 use mathlib.Core.Path.{◌≡◌}
-use lib.ListN.{length}
 use Rattle.meaning.specs.Calls.{turned}
 use Rattle.notification.specs.Moments.{moment_of}
 use Rattle.notification.proofs.turn.Given as goal
 
 abbrev pub invariant-loop-k : goal.invariant-loop-k
-invariant-loop-k l = (l.k ≤ 19) × (length l.m ≡ 2100) × (length l.m ≡ length l.initial.m) × (l.m ≡ turned (moment_of l.moment) l.k l.initial.m)
-
-abbrev pub decreases-loop-k : goal.decreases-loop-k
-decreases-loop-k l = 19 - l.k
+invariant-loop-k l = l.m ≡ turned (moment_of l.moment) l.k l.initial.m

@@ -5,14 +5,14 @@ use mathlib.Core.Bool.{true, false}
 use mathlib.Core.List.{List, [], ◌∷◌, ◌++◌}
 use Rattle.meaning.specs.Octets.{be16}
 use Rattle.meaning.specs.Table.{entry_count}
+use Rattle.meaning.specs.Profile.{release18}
 use Rattle.meaning.specs.Step.{Answer}
 use Rattle.meaning.specs.Calls.{reports, notification}
-use Rattle.meaning.proofs.Sound.{opened}
-use Rattle.records.proofs.Pieces.{Left, first_fits, left_fits, left_next, left_last}
+use Rattle.records.proofs.Pieces.{Left, wrote_this, first_fits, left_fits, left_next, left_last}
 use Rattle.notification.specs.Reports.{part_of}
-use Rattle.notification.proofs.Reported.{after_values, after_count, after_head, head_of, due_small, started}
+use Rattle.notification.proofs.Reported.{after_values, after_count, after_head, head_of, due_small, started, same_values}
 use Rattle.notification.proofs.write.Goals as goal
-use Rattle.notification.proofs.write.Goals.{After-write_count-absent, After-write_count-values, After-write_head-head, After-write_kind-count, Start}
+use Rattle.notification.proofs.write.Goals.{After-write_count-absent, After-write_count-values, After-write_head-head, After-write_values-count, Start}
 
 -- what is reported
 abbrev told : ℕ → List ℕ → List Answer
@@ -38,13 +38,13 @@ numbered : (c : After-write_count-values)
     → Rest c.args.profile c.args.m.now c.args.out.now c.write_count-values.new.out c.write_count-values.result (after_count c.args.d (told c.args.profile c.args.m.now))
 numbered c b = left_next (c.args.d.values ∷ []) (after_count c.args.d (told c.args.profile c.args.m.now)) b c.write_count-values.ensures
 
-valued : (c : After-write_kind-count)
+valued : (c : After-write_values-count)
     → Rest c.args.profile c.args.m.now c.args.out.now c.write_count-values.new.out c.write_count-values.result (after_count c.args.d (told c.args.profile c.args.m.now))
-    → Rest c.args.profile c.args.m.now c.args.out.now c.write_kind-count.new.out c.write_kind-count.result (after_values c.args.d (told c.args.profile c.args.m.now))
-valued c b = left_next (part_of true (told c.args.profile c.args.m.now)) (after_values c.args.d (told c.args.profile c.args.m.now)) b c.write_kind-count.ensures
+    → Rest c.args.profile c.args.m.now c.args.out.now c.write_values-count.new.out c.write_values-count.result (after_values c.args.d (told c.args.profile c.args.m.now))
+valued c b = left_next (part_of true (told c.args.profile c.args.m.now)) (after_values c.args.d (told c.args.profile c.args.m.now)) b (wrote_this _ _ (same_values c.args.profile release18 c.args.m.now entry_count) c.write_values-count.ensures)
 
 counted : (c : After-write_count-absent)
-    → Rest c.args.profile c.args.m.now c.args.out.now c.write_kind-count.new.out c.write_kind-count.result (after_values c.args.d (told c.args.profile c.args.m.now))
+    → Rest c.args.profile c.args.m.now c.args.out.now c.write_values-count.new.out c.write_values-count.result (after_values c.args.d (told c.args.profile c.args.m.now))
     → Rest c.args.profile c.args.m.now c.args.out.now c.write_count-absent.new.out c.write_count-absent.result (part_of false (told c.args.profile c.args.m.now))
 counted c b = left_next (c.args.d.absent ∷ []) (part_of false (told c.args.profile c.args.m.now)) b c.write_count-absent.ensures
 
@@ -71,22 +71,22 @@ write_count-values-requires c =
     let places = goal.at.write_count-values-requires c in
     (first_fits (c.args.d.values ∷ []) (after_count c.args.d (told c.args.profile c.args.m.now)) (headed places.After-write_head-head (begun places.Start)), (small places.Start).1)
 
-pub write_kind-count-requires : goal.write_kind-count-requires
-write_kind-count-requires c =
-    let places = goal.at.write_kind-count-requires c in
-    ((opened _ c.requires.0).long, first_fits (part_of true (told c.args.profile c.args.m.now)) (after_values c.args.d (told c.args.profile c.args.m.now)) (numbered places.After-write_count-values (headed places.After-write_head-head (begun places.Start))))
+pub write_values-count-requires : goal.write_values-count-requires
+write_values-count-requires c =
+    let places = goal.at.write_values-count-requires c in
+    rw (same_values release18 c.args.profile c.args.m.now entry_count) (first_fits (part_of true (told c.args.profile c.args.m.now)) (after_values c.args.d (told c.args.profile c.args.m.now)) (numbered places.After-write_count-values (headed places.After-write_head-head (begun places.Start))))
 
 pub write_count-absent-requires : goal.write_count-absent-requires
 write_count-absent-requires c =
     let places = goal.at.write_count-absent-requires c in
-    (first_fits (c.args.d.absent ∷ []) (part_of false (told c.args.profile c.args.m.now)) (valued places.After-write_kind-count (numbered places.After-write_count-values (headed places.After-write_head-head (begun places.Start)))), (small places.Start).2)
+    (first_fits (c.args.d.absent ∷ []) (part_of false (told c.args.profile c.args.m.now)) (valued places.After-write_values-count (numbered places.After-write_count-values (headed places.After-write_head-head (begun places.Start)))), (small places.Start).2)
 
-pub write_kind-requires : goal.write_kind-requires
-write_kind-requires c =
-    let places = goal.at.write_kind-requires c in
-    ((opened _ c.requires.0).long, left_fits (counted places.After-write_count-absent (valued places.After-write_kind-count (numbered places.After-write_count-values (headed places.After-write_head-head (begun places.Start))))))
+pub write_absent-requires : goal.write_absent-requires
+write_absent-requires c =
+    let places = goal.at.write_absent-requires c in
+    (left_fits (counted places.After-write_count-absent (valued places.After-write_values-count (numbered places.After-write_count-values (headed places.After-write_head-head (begun places.Start))))))
 
 pub returns : goal.returns
 returns c =
     let places = goal.at.returns c in
-    left_last (counted places.After-write_count-absent (valued places.After-write_kind-count (numbered places.After-write_count-values (headed places.After-write_head-head (begun places.Start))))) c.write_kind.ensures
+    left_last (counted places.After-write_count-absent (valued places.After-write_values-count (numbered places.After-write_count-values (headed places.After-write_head-head (begun places.Start))))) c.write_absent.ensures

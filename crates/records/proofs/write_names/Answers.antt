@@ -2,7 +2,6 @@
 use Prim.Native.Nat.{◌+◌}
 use native.Mathlib.Omega.{arith}
 use mathlib.Core.List.{◌++◌}
-use borrow.Author.Rules.{rules}
 use Rattle.meaning.specs.Reply.{all_names}
 use Rattle.records.proofs.Lengths.{names-length}
 use Rattle.records.proofs.Names.{name_at, names_from, names-all, names-next, names_none}
@@ -15,12 +14,12 @@ turn : (c : In-loop-k)
     → let a = c.args in
     let l = c.loop-k in
     Left a.out.now a.at (all_names a.profile) l.out l.to (name_at a.profile l.k ++ names_from a.profile (l.k + 1))
-turn c = left_as (names-next c.args.profile c.loop-k.k c.loop-k-test.true) c.loop-k.invariant.1
+turn c = left_as (names-next c.args.profile c.loop-k.k c.loop-k-test.true) c.loop-k.invariant
 
 pub loop-k-init : goal.loop-k-init
 loop-k-init c =
     let p = c.args.profile in
-    (search rules, left_as (names-all p) (left_start c.args.out.now c.args.at (all_names p) (omega (arith, c.requires, names-length p))))
+    left_as (names-all p) (left_start c.args.out.now c.args.at (all_names p) (omega (arith, c.requires, names-length p)))
 
 pub write_name-to-requires : goal.write_name-to-requires
 write_name-to-requires c =
@@ -32,10 +31,10 @@ pub loop-k-preserved : goal.loop-k-preserved
 loop-k-preserved c =
     let l = c.loop-k in
     let p = c.args.profile in
-    (search rules, left_next (name_at p l.k) (names_from p (l.k + 1)) (turn (goal.at.loop-k-preserved c).In-loop-k) c.write_name-to.ensures)
+    left_next (name_at p l.k) (names_from p (l.k + 1)) (turn (goal.at.loop-k-preserved c).In-loop-k) c.write_name-to.ensures
 
 pub shape_of-out : goal.shape_of-out
-shape_of-out c = c.loop-k.invariant.1.same
+shape_of-out c = c.loop-k.invariant.same
 
 pub returns : goal.returns
-returns c = left_none (names_none c.args.profile c.loop-k.k c.loop-k-test.false) c.loop-k.invariant.1
+returns c = left_none (names_none c.args.profile c.loop-k.k c.loop-k-test.false) c.loop-k.invariant

@@ -7,7 +7,6 @@ use Rattle.meaning.specs.Operation.{parse, or_none}
 use Rattle.meaning.specs.Reply.{Records, complete}
 use Rattle.octets.specs.Filling.{Filled}
 use Rattle.records.proofs.Pieces.{Left, left_fits, left_last, at_start}
-use Rattle.command.proofs.Sets.{long_of}
 use Rattle.command.proofs.Unchanged.{after_unchanged}
 use Rattle.tally.specs.declared.Tally.{Tally}
 use Rattle.tally.specs.Tallies.{tally_of}
@@ -15,7 +14,7 @@ use Rattle.tally.proofs.Lengths.{asked-names}
 use Rattle.section.specs.Kinds.{order, records_of}
 use Rattle.section.specs.Places.{place_of}
 use Rattle.reply.specs.Sections.{preface, begins}
-use Rattle.reply.proofs.Parts.{copy_long, fits_of, pieces, type_fits, names_fit, after-names}
+use Rattle.reply.proofs.Parts.{fits_of, pieces, type_fits, names_fit, after-names}
 use Rattle.reply.proofs.Prefaces.{prefaces_fit, sections_fit, pieces_written}
 use Rattle.reply.proofs.write.Goals as goal
 use Rattle.reply.proofs.write.Goals.{After-write_capabilities-at, After-write_prefaces-starts, Start}
@@ -68,11 +67,11 @@ write_prefaces-starts-requires c =
     let places = goal.at.write_prefaces-starts-requires c in
     let k = begun places.After-write_capabilities-at (room places.Start) (names-asked places.Start) in
     let h = prefaces_fit (rs places.Start) c.write_capabilities-at.result c.write_capabilities-at.new.out (left_fits k) in
-    (c.requires.1.1, (c.args.profile, rw k.same c.requires.1.2), rw c.requires.1.0 h)
+    ((c.args.profile, rw k.same c.requires.1.2), rw c.requires.1.0 h)
 
 pub renew-requires : goal.renew-requires
 renew-requires c =
-    (copy_long _ _ _ _ c.args.changed c.requires.0 ∙ sym (long_of _ c.requires.0.0), unchanged (goal.at.renew-requires c).Start)
+    (c.told-copy ∙ sym c.told-m, unchanged (goal.at.renew-requires c).Start)
 
 pub write-requires : goal.write-requires
 write-requires c =

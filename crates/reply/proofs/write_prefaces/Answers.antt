@@ -21,7 +21,7 @@ module _ (c : Start) where
 
   -- each preface lies within the room
   within : (k : Kind) → begins c.args.t c.args.at k + length (preface c.args.t k) ≤ length c.args.out.now
-  within k = fits_at (begins c.args.t c.args.at) (preface c.args.t) _ k c.requires.2
+  within k = fits_at (begins c.args.t c.args.at) (preface c.args.t) _ k c.requires.1
 
 -- ---- what each call wrote
 
@@ -66,8 +66,8 @@ unfolding begins
 write_opening-values-requires c =
     let a = c.any_read-reads.ensures in
     let n = c.read_octets-n.ensures.0 in (
-      λ b. omega (arith, n, read_small _ _ c.args.t c.requires.1.1 (sym a ∙ b)),
-      few_values _ _ c.args.t c.requires.1.1,
+      λ b. omega (arith, n, read_small _ _ c.args.t c.requires.0.1 (sym a ∙ b)),
+      few_values _ _ c.args.t c.requires.0.1,
       omega (arith, within (goal.at.write_opening-values-requires c).Start Values, ap length (preface-values c.args.t _ _ a n)),
     )
 
@@ -106,7 +106,7 @@ overflow_add-fifth c =
 pub write_second_count-read_errors-requires : goal.write_second_count-read_errors-requires
 write_second_count-read_errors-requires c =
     let places = goal.at.write_second_count-read_errors-requires c in (
-      few_read_errors _ _ c.args.t c.requires.1.1,
+      few_read_errors _ _ c.args.t c.requires.0.1,
       omega (arith, within places.Start ReadErrors, second_at places.After-write_opening-values, c.write_opening-values.auto.out, ap length (preface-read_errors c.args.t _ c.any_read-reads.ensures)),
     )
 
@@ -115,22 +115,22 @@ write_opening-updates-requires c =
     let places = goal.at.write_opening-updates-requires c in
     let a = c.any_set-sets.ensures in
     let n = c.set_octets-k.ensures.0 in (
-      λ b. omega (arith, n, set-small _ _ c.args.t c.requires.1.1 (sym a ∙ b)),
-      few_updates _ _ c.args.t c.requires.1.1,
+      λ b. omega (arith, n, set-small _ _ c.args.t c.requires.0.1 (sym a ∙ b)),
+      few_updates _ _ c.args.t c.requires.0.1,
       omega (arith, within places.Start Updates, third_at places.After-write_second_count-read_errors (wrote₁ places.After-write_opening-values), c.write_second_count-read_errors.auto.out ∙ c.write_opening-values.auto.out, ap length (preface-updates c.args.t _ _ a n)),
     )
 
 pub write_second_count-update_errors-requires : goal.write_second_count-update_errors-requires
 write_second_count-update_errors-requires c =
     let places = goal.at.write_second_count-update_errors-requires c in (
-      few_update_errors _ _ c.args.t c.requires.1.1,
+      few_update_errors _ _ c.args.t c.requires.0.1,
       omega (arith, within places.Start UpdateErrors, fourth-at places.After-write_opening-updates (wrote₁ places.After-write_opening-values) (wrote₂ places.After-write_second_count-read_errors), c.write_opening-updates.auto.out ∙ (c.write_second_count-read_errors.auto.out ∙ c.write_opening-values.auto.out), ap length (preface-update_errors c.args.t _ c.any_set-sets.ensures)),
     )
 
 pub write_longs-long_updates-requires : goal.write_longs-long_updates-requires
 write_longs-long_updates-requires c =
     let places = goal.at.write_longs-long_updates-requires c in (
-      long-small _ _ c.args.t c.requires.1.1,
+      long-small _ _ c.args.t c.requires.0.1,
       omega (arith, within places.Start LongUpdates, fifth-at places.After-write_second_count-update_errors (wrote₁ places.After-write_opening-values) (wrote₂ places.After-write_second_count-read_errors) (wrote₃ places.After-write_opening-updates), c.write_second_count-update_errors.auto.out ∙ (c.write_opening-updates.auto.out ∙ (c.write_second_count-read_errors.auto.out ∙ c.write_opening-values.auto.out)), ap length (preface-long_updates c.args.t)),
     )
 

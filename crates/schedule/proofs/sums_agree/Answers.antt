@@ -11,5 +11,5 @@ pub returns : goal.returns
 returns c =
     let v = c.args.value.now in
     let n = c.if-value-ne-SUMS_LENGTH.false in
-    rw (c.get16.ensures.0, c.sums_of_four-s.ensures.0, c.get16-2.ensures.0, c.sums_of_four-s.ensures.1, eq-eqb (length v) 4 n)
+    rw (c.get16.ensures.0, c.from.ensures, c.sums_of_four-s.ensures.0, c.get16-2.ensures.0, c.from-2.ensures, c.sums_of_four-s.ensures.1, eq-eqb (length v) 4 n)
     (sums_spelt v (joined_block c.args.base.now c.args.count.now c.args.list.now c.args.ratio.now) n (λ i. omega (arith, c.type_inv.value i)))

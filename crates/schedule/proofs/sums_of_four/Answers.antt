@@ -8,5 +8,5 @@ pub returns : goal.returns
 unfolding sums_of
 returns c =
     let a = c.args in
-    let e = four_sums a.base.now a.count.now a.list.now a.ratio.now c.sums_on-a.ensures c.sums_on-b.ensures c.sums_on-c.ensures in
-    (c.sums_on.ensures.0 ∙ ap (λ (r : Sums). r.first) e, c.sums_on.ensures.1 ∙ ap (λ (r : Sums). r.second) e)
+    let e = four_sums a.base.now a.count.now a.list.now a.ratio.now c.on-a.ensures c.on-b.ensures c.on-c.ensures in
+    (c.on.ensures.0 ∙ ap (λ (r : Sums). r.first) e, c.on.ensures.1 ∙ ap (λ (r : Sums). r.second) e)

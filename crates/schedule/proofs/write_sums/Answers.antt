@@ -10,5 +10,5 @@ returns c =
     let out = c.args.out.now in
     let p = c.args.s.first in
     let q = c.args.s.second in
-    then out (be16 p) (be16 q) 0 2 (omega (arith, c.requires)) refl c.put16.ensures c.put16-2.ensures
+    then out (be16 p) (be16 q) 0 2 (omega (arith, c.requires)) refl (rw c.from.ensures at c.put16.ensures) (rw c.from-2.ensures at c.put16-2.ensures)
     ∙ splice_all out (be16 p ++ be16 q) (omega (arith, c.requires))

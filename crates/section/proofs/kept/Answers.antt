@@ -8,10 +8,10 @@ use Rattle.section.proofs.kept.Goals as goal
 pub returns-in_default : goal.returns-in_default
 returns-in_default c = kept_other c.args.op c.args.known c.in_default.not-Set
 
-pub returns-then-name-eq-COMMIT_NAME : goal.returns-then-name-eq-COMMIT_NAME
+pub returns-then-v-eq-COMMIT_NAME : goal.returns-then-v-eq-COMMIT_NAME
 unfolding kept_after
-returns-then-name-eq-COMMIT_NAME c = rw (c.in-Set.is, c.if-name-eq-COMMIT_NAME.true) refl
+returns-then-v-eq-COMMIT_NAME c = rw (c.in-Set.is, c.if-v-eq-COMMIT_NAME.true) refl
 
-pub returns-else-name-eq-COMMIT_NAME : goal.returns-else-name-eq-COMMIT_NAME
+pub returns-else-v-eq-COMMIT_NAME : goal.returns-else-v-eq-COMMIT_NAME
 unfolding kept_after
-returns-else-name-eq-COMMIT_NAME c = rw (c.in-Set.is, ne_eqb _ 0x8001 c.if-name-eq-COMMIT_NAME.false)
+returns-else-v-eq-COMMIT_NAME c = rw (c.in-Set.is, ne_eqb _ 0x8001 c.if-v-eq-COMMIT_NAME.false)

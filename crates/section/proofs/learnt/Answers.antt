@@ -2,7 +2,7 @@
 use mathlib.Core.Path.{ap}
 use borrow.Author.Tests.{eq-eqb, ne_eqb}
 use Rattle.meaning.specs.Table.{commit}
-use Rattle.section.specs.declared.RunningSums.TheVariants.{Known}
+use Rattle.std.specs.Prelude.{Some}
 use Rattle.section.specs.Knowing.{learnt_from}
 use Rattle.section.proofs.Knows.{learnt_other}
 use Rattle.section.proofs.learnt.Goals as goal
@@ -18,4 +18,4 @@ returns-then-k-ne-COMMIT c = rw (c.in-Value.is, ne_eqb _ commit c.if-k-ne-COMMIT
 
 pub returns : goal.returns
 unfolding learnt_from
-returns c = rw (c.in-Value.is, eq-eqb _ commit c.if-k-ne-COMMIT.false) (ap Known c.running_sums-s.ensures)
+returns c = rw (c.in-Value.is, eq-eqb _ commit c.if-k-ne-COMMIT.false) (ap Some c.running_sums.ensures)

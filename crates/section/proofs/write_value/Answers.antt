@@ -47,7 +47,7 @@ module _ (c : After-running_sums-s) where
   four-shown = sym (ap length sums-shown)
 
   record-fits : c.args.at + 8 ≤ length c.args.out.now
-  record-fits = omega (arith, c.requires.4, held-length (record { name = c.args.name; value = asked }), four-shown)
+  record-fits = omega (arith, c.requires.3, held-length (record { name = c.args.name; value = asked }), four-shown)
 
 -- what stands before them, by the length of what is asked
 module _ (c : After-write_value_head-from) where
@@ -62,7 +62,7 @@ module _ (c : After-write_value_head-from) where
 pub write_held-requires : goal.write_held-requires
 write_held-requires c =
     let e = value-shown (goal.at.write_held-requires c).After-sent_body-v in
-    (omega (arith, ap length e, c.requires.4, held-length (record { name = c.args.name; value = shown c.args.profile c.args.m.now c.args.k })), c.requires.2, omega (arith, ap length e, shown-short c.args.profile c.args.m.now c.args.k c.requires.1))
+    (omega (arith, ap length e, c.requires.3, held-length (record { name = c.args.name; value = shown c.args.profile c.args.m.now c.args.k })), c.requires.1, omega (arith, ap length e, shown-short c.args.profile c.args.m.now c.args.k c.requires.0))
 
 pub returns-then-k-ne-COMMIT : goal.returns-then-k-ne-COMMIT
 returns-then-k-ne-COMMIT c =
@@ -72,7 +72,7 @@ returns-then-k-ne-COMMIT c =
 pub write_value_head-from-requires : goal.write_value_head-from-requires
 write_value_head-from-requires c =
     let h = record-fits (goal.at.write_value_head-from-requires c).After-running_sums-s in
-    (search rules, c.requires.2, omega arith)
+    (search rules, c.requires.1, omega arith)
 
 pub overflow_add-end : goal.overflow_add-end
 overflow_add-end c =

@@ -12,9 +12,9 @@ unfolding across_sound every implies timer_sound timer
 returns c =
     let m = c.args.m.now in
     rw (
-      c.present-gate.ensures,
-      c.present-most.ensures,
-      c.present-runs.ensures,
+      c.has-gate.ensures,
+      c.has-most.ensures,
+      c.has-runs.ensures,
       c.four_present-four.ensures,
       c.timer_sound.ensures,
       part-octet m 114 2 0 (omega arith),

@@ -1,6 +1,5 @@
 -- `soundness::all_tails` meets its contract.
 use Prim.Native.Nat.{◌-◌, ◌≤◌}
-use mathlib.Core.Bool.{◌&&◌}
 use mathlib.Core.Path.{◌≡◌}
 use Rattle.meaning.specs.Table.{room_at}
 use Rattle.meaning.specs.Octets.{part, blank, below}
@@ -9,7 +8,4 @@ use Rattle.soundness.proofs.all_tails.Given as goal
 
 abbrev pub invariant-loop-k : goal.invariant-loop-k
 invariant-loop-k l =
-    (l.k ≤ 19) × (l.end ≤ room_at l.k) × (l.end ≤ 2100) × ((l.ok && blank (part l.m l.end (room_at l.k - l.end))) ≡ below l.k (tail_at l.m))
-
-abbrev pub decreases-loop-k : goal.decreases-loop-k
-decreases-loop-k l = 19 - l.k
+    (l.end ≤ room_at l.k) × (l.end ≤ 2100) × (blank (part l.m l.end (room_at l.k - l.end)) ≡ below l.k (tail_at l.m))

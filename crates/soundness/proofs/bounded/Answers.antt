@@ -16,4 +16,4 @@ returns-then-profile-ne-RELEASE_16 c =
 pub returns : goal.returns
 returns c =
     let a = c.args in
-    bounds_found a.profile a.m.now c.if-profile-ne-RELEASE_16.false c.body-list.ensures c.body-block.ensures c.subscribed-marked.ensures
+    bounds_found a.profile a.m.now c.if-profile-ne-RELEASE_16.false c.body-list.ensures c.body-block.ensures c.has-marked.ensures

@@ -1,44 +1,34 @@
 -- `soundness::sound_form_b` meets its contract.
-use mathlib.Core.Path.{◌≡◌, sym, ap, ◌∙◌}
-use mathlib.Core.Bool.{true}
-use borrow.Author.Tests.{eq-eqb, ne_eqb}
+use native.Mathlib.Omega.{arith}
+use mathlib.Core.Path.{◌≡◌, sym, ap, ap₂, ◌∙◌}
+use mathlib.Core.Bool.{◌&&◌}
 use Rattle.meaning.specs.Memory.{sound}
-use Rattle.meaning.specs.Profile.{bounded, sound_in}
-use Rattle.meaning.specs.FormB.{profile_of, in_form_b, sound_form_b}
-use Rattle.meaning.proofs.Tests.{and_both}
-use Rattle.meaning.proofs.Sound.{opened}
-use Rattle.octets.proofs.Splices.{rest_is_lem}
+use Rattle.meaning.specs.Profile.{is_profile, bounded}
+use Rattle.meaning.specs.FormB.{sound_form_b}
+use Rattle.soundness.proofs.Entries.{another-form, form_tests}
 use Rattle.soundness.proofs.sound_form_b.Goals as goal
-use Rattle.soundness.proofs.sound_form_b.Goals.{Else-not-is_profile}
+use Rattle.soundness.proofs.sound_form_b.Goals.{After-is_profile}
 
--- the form is right
-formed : (c : Else-not-is_profile) → in_form_b c.args.b.now ≡ true
-unfolding in_form_b
-formed c =
-    let known = c.is_profile in
-    and_both (eq-eqb _ _ c.if-b-ne-FORM_LENGTH.false) (sym known.ensures ∙ c.if-not-is_profile.false)
+pub returns-in_default : goal.returns-in_default
+returns-in_default c = another-form c.args.b.now (λ h. omega (arith, h, c.in_default.ensures.cases))
 
-pub returns-then-b-ne-FORM_LENGTH : goal.returns-then-b-ne-FORM_LENGTH
-unfolding in_form_b sound_form_b
-returns-then-b-ne-FORM_LENGTH c = rw (ne_eqb _ _ c.if-b-ne-FORM_LENGTH.true)
+pub returns-in_default-as_array : goal.returns-in_default-as_array
+returns-in_default-as_array c =
+    another-form c.args.b.now (λ h. c.in_default-as_array.ensures.cases (omega (arith, h, c.in-Some.ensures.cases.1)))
 
-pub returns-then-not-is_profile : goal.returns-then-not-is_profile
-unfolding in_form_b sound_form_b
-returns-then-not-is_profile c =
-    rw (eq-eqb _ _ c.if-b-ne-FORM_LENGTH.false, sym c.is_profile.ensures ∙ c.if-not-is_profile.true)
+-- the octet ahead and the memory behind it
+parts : (c : After-is_profile) → (is_profile c.in-Some.profile.now && (sound c.in-Some.behind.now && bounded c.in-Some.profile.now c.in-Some.behind.now)) ≡ sound_form_b c.args.b.now
+parts c =
+    rw c.in-Some.ensures.cases.0 (form_tests c.in-Some.profile.now c.in-Some.behind.now c.in-Some-as_array.ensures.cases.long)
 
-pub returns-then-not-sound : goal.returns-then-not-sound
-unfolding sound_form_b sound_in
-returns-then-not-sound c =
-    let b = c.args.b.now in
-    rw (formed (goal.at.returns-then-not-sound c).Else-not-is_profile, ap sound (sym (rest_is_lem b 1)) ∙ sym c.sound.ensures ∙ c.if-not-sound.true)
+pub returns-then-is_profile : goal.returns-then-is_profile
+returns-then-is_profile c =
+    let p = (goal.at.returns-then-is_profile c).After-is_profile in
+    let e = c.in-Some-as_array.ensures.cases.same in
+    ap₂ ◌&&◌ (c.sound.ensures ∙ ap sound e) (c.bounded.ensures ∙ ap (bounded c.in-Some.profile.now) e)
+    ∙ rw (sym c.is_profile.ensures ∙ c.if-is_profile.true) at (parts p)
 
-pub bounded-requires : goal.bounded-requires
-bounded-requires c = (opened _ (sym c.sound.ensures ∙ c.if-not-sound.false)).long
-
-pub returns : goal.returns
-unfolding sound_form_b sound_in
-returns c =
-    let b = c.args.b.now in
-    rw (formed (goal.at.returns c).Else-not-is_profile, ap sound (sym (rest_is_lem b 1)) ∙ sym c.sound.ensures ∙ c.if-not-sound.false)
-    (c.bounded.ensures ∙ ap (bounded (profile_of b)) (rest_is_lem b 1))
+pub returns-else-is_profile : goal.returns-else-is_profile
+returns-else-is_profile c =
+    let p = (goal.at.returns-else-is_profile c).After-is_profile in
+    c.if-is_profile.false ∙ rw (sym c.is_profile.ensures ∙ c.if-is_profile.false) at (parts p)

@@ -1,22 +1,17 @@
 -- `soundness::sound_old` meets its contract.
-use mathlib.Core.Path.{◌≡◌, sym, ◌∙◌}
-use mathlib.Core.Bool.{true}
+use mathlib.Core.Path.{sym, ap, ap₂, ◌∙◌}
+use mathlib.Core.Bool.{◌&&◌}
 use Rattle.meaning.specs.Memory.{sound}
-use Rattle.meaning.specs.Moves.{sound_old}
-use Rattle.meaning.proofs.Sound.{opened}
+use Rattle.meaning.specs.Moves.{none_in_flight, sound_old}
+use Rattle.soundness.proofs.Entries.{another-length}
 use Rattle.soundness.proofs.sound_old.Goals as goal
-use Rattle.soundness.proofs.sound_old.Goals.{Else-not-sound}
 
-tested : (c : Else-not-sound) → sound c.args.m.now ≡ true
-tested c = sym c.sound.ensures ∙ c.if-not-sound.false
-
-pub returns-then-not-sound : goal.returns-then-not-sound
+pub returns-in_default : goal.returns-in_default
 unfolding sound_old
-returns-then-not-sound c = rw (sym c.sound.ensures ∙ c.if-not-sound.true)
-
-pub none_in_flight-requires : goal.none_in_flight-requires
-none_in_flight-requires c = (opened _ (tested c)).long
+returns-in_default c = rw (sym (another-length c.args.m.now c.in_default.ensures.cases))
 
 pub returns : goal.returns
 unfolding sound_old
-returns c = rw (tested (goal.at.returns c).Else-not-sound) c.none_in_flight.ensures
+returns c =
+    let e = c.in-Some.ensures.cases.same in
+    ap₂ ◌&&◌ (c.sound.ensures ∙ ap sound e) (c.none_in_flight.ensures ∙ ap none_in_flight e)

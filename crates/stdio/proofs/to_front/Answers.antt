@@ -1,26 +1,17 @@
 -- `stdio::to_front` meets its contract.
-use Prim.Native.Nat.{◌-◌}
+use Prim.Native.Nat.{ℕ, ◌+◌, ◌-◌}
 use native.Mathlib.Omega.{arith}
-use mathlib.Core.Path.{◌≡◌, refl}
-use lib.ListN.{length-set}
-use borrow.Author.Rules.{rules}
-use Rattle.meaning.specs.Octets.{part}
-use Rattle.stdio.proofs.Held.{move_turn, moved}
+use mathlib.Core.Path.{refl, sym, ap, ◌∙◌}
+use mathlib.Core.List.{◌++◌}
+use lib.ListN.{drop}
+use Rattle.meaning.specs.Octets.{part, splice}
+use Rattle.meaning.proofs.Lists.{length_part}
 use Rattle.stdio.proofs.to_front.Goals as goal
 
-pub loop-i-init : goal.loop-i-init
-unfolding part
-loop-i-init c = (search rules, refl, refl, refl)
-
-pub loop-i-preserved : goal.loop-i-preserved
-loop-i-preserved c =
-    let l = c.loop-i in
-    let m = move_turn c.args.block.now l.block c.args.from l.i (omega arith) (omega arith) l.invariant.2 l.invariant.3 in
-    (omega arith, simp length-set l.invariant.1, m.0, m.1)
-
 pub returns : goal.returns
+unfolding splice part
 returns c =
-    let l = c.loop-i in
-    let a = c.args in
-    let e : l.i ≡ a.to - a.from = omega arith in
-    (refl, moved a.block.now l.block a.from (a.to - a.from) (omega arith) (rw e at l.invariant.2) (rw e at l.invariant.3))
+    let s = c.args.block.now in
+    let n = c.args.to - c.args.from in
+    let l = length_part s c.args.from n (omega arith) in
+    (refl, c.copy_within.ensures.after ∙ ap (λ (k : ℕ). part s c.args.from n ++ drop (0 + k) s) (sym l))

@@ -4,4 +4,4 @@ use Rattle.stdio.proofs.write_cut.Goals as goal
 
 pub returns : goal.returns
 unfolding cut_line
-returns c = record { value = c.append.ensures.0; wrote = c.append.ensures }
+returns c = c.print.ensures

@@ -15,4 +15,4 @@ pub returns : goal.returns
 returns c =
     let m = c.args.m.now in
     let e : length c.sent_body.result.now ≡ length (shown c.args.profile m c.args.k) = ap length (c.sent_body.ensures ∙ sym (shown-value _ m c.args.k c.if-k-eq-COMMIT.false)) in
-    (e, omega (arith, e, shown-short c.args.profile m c.args.k c.requires.1))
+    (e, omega (arith, e, shown-short c.args.profile m c.args.k c.requires))

@@ -1,75 +1,88 @@
 -- `tally::take` meets its contract.
 use Prim.Native.Nat.{◌*◌, ◌≤◌, ◌<◌}
 use native.Mathlib.Omega.{arith}
-use mathlib.Core.Path.{refl, sym, ◌∙◌}
-use mathlib.Core.Bool.{false≢true}
+use mathlib.Core.Path.{◌≡◌, refl, ap, ◌∙◌}
+use mathlib.Core.Bool.{false}
+use borrow.Author.Rules.{rules}
+use Rattle.std.specs.Prelude.{None}
 use lib.ListN.{length}
 use Rattle.meaning.specs.Profile.{release18, is_release16}
-use Rattle.operation.specs.Handing.{Inside}
+use Rattle.operation.specs.Handing.{Inside, Handed, handed, handed_at}
 use Rattle.operation.proofs.Turns.{HandsOut, inside-within, hands_whole}
-use Rattle.operation.proofs.Hands.{hands_out}
-use Rattle.command.proofs.Sets.{long_of}
+use Rattle.operation.proofs.Reading.{has_op, hands_there, read_operation, read_none}
 use Rattle.command.proofs.Told.{told_back}
 use Rattle.command.proofs.Walk.{under_ahead}
 use Rattle.tally.proofs.Plus.{below_more}
-use Rattle.tally.proofs.Loop.{counting_start, counting_end, counting_turn}
-use Rattle.command.proofs.Walk.{not_operation}
+use Rattle.tally.proofs.Loop.{zero_tally, counting_start, counting_end, counting_turn}
 use Rattle.tally.proofs.take.Goals as goal
-use Rattle.tally.proofs.take.Goals.{After-hand_out-h, In-Operation}
+use Rattle.tally.proofs.take.Goals.{After-next_operation, In-Ok-Some}
 
--- what the list hands out at the position
-hands : (c : After-hand_out-h)
-    → HandsOut c.args.profile c.args.list.now c.loop-op.at c.hand_out-h.result
+-- what the reader has at its place
+abbrev there : After-next_operation → Handed
+there c =
+    let r = c.loop-op.reader in
+    handed_at 2 r.list.now r.at
+
+hands : (c : After-next_operation) → HandsOut c.args.profile c.args.list.now c.loop-op.reader.at (there c)
 unfolding is_release16
 hands c =
-    hands_whole _ release18 _ _ _ refl c.loop-op.invariant.under.whole
-    (hands_out _ _ (λ i. omega (arith, c.type_inv.list i)) _ _ c.hand_out-h.ensures)
+    let i = c.loop-op.invariant in
+    hands_whole _ release18 _ _ _ refl i.1.under.whole (hands_there _ _ _ (λ i. omega (arith, c.type_inv.list i)) _ i.0)
 
--- the position after the operation
-ahead : (c : In-Operation)
-    → (c.loop-op.at < c.in-Operation.next) × (c.in-Operation.next ≤ length c.args.list.now) × Inside (length c.args.list.now) c.in-Operation.op
-unfolding is_release16
-ahead c =
-    let l = c.loop-op in
-    let h = hands_whole _ release18 _ _ _ refl l.invariant.under.whole (hands_out _ _ (λ i. omega (arith, c.type_inv.list i)) _ _ c.hand_out-h.ensures) in
-    under_ahead _ _ _ _ l.at l.invariant.under _ h _ _ c.in-Operation.is
+-- an operation, and the place after it
+module _ (c : In-Ok-Some) where
+  operation : there (goal.at.In-Ok-Some c).After-next_operation ≡ handed c.in-Ok-Some.op c.next_operation.new.self.at
+  operation =
+      let e = c.in-Ok-Some.ensures in
+      read_operation _ _ _ _ (rw c.in-Ok-Some.field-0-is at e.handed) e.place
 
-pub renew-requires : goal.renew-requires
-renew-requires c =
-    (omega (arith, long_of _ c.requires.0, c.requires.3), λ e. absurd (false≢true (sym e)))
+  ahead : (c.loop-op.reader.at < c.next_operation.new.self.at) × (c.next_operation.new.self.at ≤ length c.args.list.now) × Inside (length c.args.list.now) c.in-Ok-Some.op
+  ahead = under_ahead _ _ _ _ _ c.loop-op.invariant.1.under _ (hands (goal.at.In-Ok-Some c).After-next_operation) _ _ operation
 
 pub loop-op-init : goal.loop-op-init
 loop-op-init c =
-    counting_start _ _ _ _ c.requires.0 c.requires.1 c.renew.ensures
-
-pub shape_of-copy-in_default : goal.shape_of-copy-in_default
-shape_of-copy-in_default c = long_of _ c.loop-op.invariant.under.is_sound ∙ sym c.requires.3
-
-pub returns-in_default : goal.returns-in_default
-returns-in_default c =
-    let e = counting_end _ _ _ _ _ _ c.loop-op.at c.loop-op.invariant _ (hands (goal.at.returns-in_default c).After-hand_out-h) c.requires.2 (not_operation _ c.in_default.not-Operation) in
-    record { tally_value = e.0; below = e.1; copy_after = e.2; changed_value = e.3 }
+    let r = c.new-reader.ensures in
+    (ap (λ r. r.now) r.0, rw (zero_tally c.default-t.result c.default-t.ensures, r.1) (counting_start _ _ _ _ c.requires.0 c.requires.1 c.renew.ensures))
 
 pub carry_out-a-requires : goal.carry_out-a-requires
-carry_out-a-requires c = (c.loop-op.invariant.under.is_sound, (ahead (goal.at.carry_out-a-requires c).In-Operation).2)
+carry_out-a-requires c = (c.loop-op.invariant.1.under.is_sound, (ahead (goal.at.carry_out-a-requires c).In-Ok-Some).2)
 
-pub add-t-requires : goal.add-t-requires
-add-t-requires c =
-    let l = c.loop-op in (
-      c.carry_out-a.auto.m ∙ long_of _ l.invariant.under.is_sound,
-      below_more (4096 * l.at) 16777216 l.t (omega (arith, l.invariant.under.inside, c.requires.2)) l.invariant.small,
-      inside-within _ 2048 c.in-Operation.op c.requires.2 (ahead (goal.at.add-t-requires c).In-Operation).2,
+pub add-requires : goal.add-requires
+add-requires c =
+    let l = c.loop-op in
+    let i = l.invariant.1 in (
+      below_more (4096 * l.reader.at) 16777216 l.t (omega (arith, i.under.inside, c.requires.2)) i.small,
+      inside-within _ 2048 _ c.requires.2 (ahead (goal.at.add-requires c).In-Ok-Some).2,
       (told_back _ _ _ _ _ c.carry_out-a.result c.carry_out-a.ensures.m_after c.carry_out-a.ensures.value).1,
     )
 
 pub loop-op-smaller : goal.loop-op-smaller
 loop-op-smaller c =
-    let w = ahead (goal.at.loop-op-smaller c).In-Operation in
+    let w = ahead (goal.at.loop-op-smaller c).In-Ok-Some in
     omega (arith, w.0, w.1)
 
 pub loop-op-preserved : goal.loop-op-preserved
 loop-op-preserved c =
+    let places = goal.at.loop-op-preserved c in
     let k = c.carry_out-a in
     let l = c.loop-op in
-    counting_turn _ _ _ _ l.t l.changed l.at l.invariant _ (hands (goal.at.loop-op-preserved c).After-hand_out-h) _ _ c.in-Operation.is c.requires.2 _ k.result _ _
-    k.ensures.m_after k.ensures.value c.add-t.ensures c.changes-changed.ensures
+    let i = l.invariant in (
+      ap (λ r. r.now) c.next_operation.ensures.list ∙ i.0,
+      counting_turn _ _ _ _ l.t l.changed l.reader.at i.1 _ (hands places.After-next_operation) _ _ (operation places.In-Ok-Some) c.requires.2 _ k.result _ _
+          k.ensures.m_after k.ensures.value c.add.ensures c.changes-changed.ensures,
+    )
+
+pub returns-in_default : goal.returns-in_default
+returns-in_default c =
+    let l = c.loop-op in
+    let n : c.in_default.field-0 ≡ None = search rules in
+    let none : has_op c.next_operation.result ≡ false = rw (c.in_default.is, n) refl in
+    let e = counting_end _ _ _ _ _ _ l.reader.at l.invariant.1 _ (hands (goal.at.returns-in_default c).After-next_operation) c.requires.2 (read_none _ _ c.next_operation.ensures.handed none) in
+    record { tally_value = e.0; below = e.1; copy_after = e.2; changed_value = e.3 }
+
+pub returns-in_default-2 : goal.returns-in_default-2
+returns-in_default-2 c =
+    let l = c.loop-op in
+    let none : has_op c.next_operation.result ≡ false = rw c.in_default.is refl in
+    let e = counting_end _ _ _ _ _ _ l.reader.at l.invariant.1 _ (hands (goal.at.returns-in_default-2 c).After-next_operation) c.requires.2 (read_none _ _ c.next_operation.ensures.handed none) in
+    record { tally_value = e.0; below = e.1; copy_after = e.2; changed_value = e.3 }

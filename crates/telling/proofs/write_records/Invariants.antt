@@ -5,7 +5,7 @@ use Rattle.telling.proofs.Records.{Telling}
 use Rattle.telling.proofs.write_records.Given as goal
 
 abbrev pub invariant-loop-handed : goal.invariant-loop-handed
-invariant-loop-handed l = Telling l.message l.initial.out l.at l.initial.handed l.out l.handed l.to
+invariant-loop-handed l = Telling l.message l.initial.page l.initial.handed l.page l.handed
 
 abbrev pub decreases-loop-handed : goal.decreases-loop-handed
 decreases-loop-handed l = length (remaining l.message l.handed)

@@ -1,17 +1,27 @@
 -- `text::write_field` meets its contract.
 use native.Mathlib.Omega.{arith}
-use Rattle.text.proofs.Writes.{long-short, field-written}
+use mathlib.Core.Path.{ap}
+use lib.ListN.{length}
+use Rattle.page.proofs.Prints.{room_behind, prints_both}
+use Rattle.text.specs.Lines.{wide_field}
+use Rattle.text.proofs.Decimals.{told, wide-field-length}
 use Rattle.text.proofs.write_field.Goals as goal
 
-pub bounds-out-end : goal.bounds-out-end
-bounds-out-end c =
-    let w = c.write_long_decimal-end in
-    omega (arith, long-short c.args.number, w.auto.out, w.ensures.0)
+pub print-requires : goal.print-requires
+print-requires c =
+    let d = c.decimal-n in
+    let e = told d.new.out c.ranges.number.fits d.ensures.len d.ensures.digits in
+    omega (arith, ap length e, wide-field-length c.args.number c.args.after, c.requires)
 
-pub overflow_add-result : goal.overflow_add-result
-overflow_add-result c = omega (arith, long-short c.args.number, c.write_long_decimal-end.ensures.0)
+pub push-requires : goal.push-requires
+push-requires c =
+    let d = c.decimal-n in
+    let e = told d.new.out c.ranges.number.fits d.ensures.len d.ensures.digits in
+    room_behind _ 1 c.requires c.print.ensures (omega (arith, ap length e, wide-field-length c.args.number c.args.after))
 
 pub returns : goal.returns
+unfolding wide_field
 returns c =
-    let w = c.write_long_decimal-end in
-    field-written c.args.out.now c.args.at c.args.number w.result c.requires.1 w.ensures.0 w.ensures.1
+    let d = c.decimal-n in
+    let e = told d.new.out c.ranges.number.fits d.ensures.len d.ensures.digits in
+    prints_both (omega (arith, wide-field-length c.args.number c.args.after, c.requires)) (rw e at c.print.ensures) c.push.ensures

@@ -1,33 +1,34 @@
 -- `text::write_open_line` meets its contract.
 use native.Mathlib.Omega.{arith}
-use Rattle.text.proofs.Writes.{field-short}
-use Rattle.text.proofs.Decimals.{octet-field-length, wide-field-short, open_written}
+use Rattle.page.proofs.Prints.{room_behind, prints_both}
+use Rattle.text.specs.Lines.{open_line}
+use Rattle.text.proofs.Decimals.{number-long, field_wide, octet-field-length, wide-field-short}
 use Rattle.text.proofs.write_open_line.Goals as goal
 
-pub write_octet_field-third-requires : goal.write_octet_field-third-requires
-write_octet_field-third-requires c =
-    let w = c.write_field-second in
-    omega (arith, c.requires, field-short 0, w.auto.out, w.ensures.0)
+pub write_field-requires : goal.write_field-requires
+write_field-requires c = omega (arith, c.requires, number-long 0 32 (omega arith))
 
-pub write_wide_field-fourth-requires : goal.write_wide_field-fourth-requires
-write_wide_field-fourth-requires c =
-    let w = c.write_field-second in
-    let x = c.write_octet_field-third in
-    omega (arith, c.requires, field-short 0, octet-field-length c.args.states, w.auto.out, w.ensures.0, x.auto.out, x.ensures.0)
+pub write_octet_field-requires : goal.write_octet_field-requires
+write_octet_field-requires c = room_behind 50 3 c.requires c.write_field.ensures (omega (arith, number-long 0 32 (omega arith)))
 
-pub write_wide_field-requires : goal.write_wide_field-requires
-write_wide_field-requires c =
-    let w = c.write_field-second in
-    let x = c.write_octet_field-third in
-    let y = c.write_wide_field-fourth in
-    omega (arith, c.requires, field-short 0, octet-field-length c.args.states, wide-field-short c.args.entry 32, w.auto.out, w.ensures.0, x.auto.out, x.ensures.0, y.auto.out, y.ensures.0)
+pub write_field-requires-2 : goal.write_field-requires-2
+write_field-requires-2 c =
+    let t = room_behind 50 45 c.requires c.write_field.ensures (omega (arith, number-long 0 32 (omega arith))) in
+    room_behind 45 _ t c.write_octet_field.ensures (omega (arith, octet-field-length c.args.states, wide-field-short c.args.entry 32))
+
+pub write_field-requires-3 : goal.write_field-requires-3
+write_field-requires-3 c =
+    let t = room_behind 50 45 c.requires c.write_field.ensures (omega (arith, number-long 0 32 (omega arith))) in
+    let u = room_behind 45 42 t c.write_octet_field.ensures (omega (arith, octet-field-length c.args.states)) in
+    room_behind 42 _ u c.write_field-2.ensures (omega (arith, wide-field-short c.args.entry 32, wide-field-short c.args.nanoseconds 10))
 
 pub returns : goal.returns
+unfolding open_line
 returns c =
-    let a = c.args in
-    let w = c.write_field-second in
-    let x = c.write_octet_field-third in
-    let y = c.write_wide_field-fourth in
-    let z = c.write_wide_field in
-    open_written a.out.now w.new.out x.new.out y.new.out z.new.out a.at a.states a.entry a.nanoseconds w.result x.result y.result z.result
-    c.requires w.ensures.0 w.ensures.1 x.ensures.0 x.ensures.1 y.ensures.0 y.ensures.1 z.ensures.0 z.ensures.1
+    let n = number-long 0 32 (omega arith) in
+    let t = room_behind 50 45 c.requires c.write_field.ensures (omega (arith, n)) in
+    let u = room_behind 45 42 t c.write_octet_field.ensures (omega (arith, octet-field-length c.args.states)) in
+    rw (← field_wide 0 (omega arith))
+    (prints_both (omega (arith, c.requires, n)) c.write_field.ensures
+    (prints_both (omega (arith, t, octet-field-length c.args.states)) c.write_octet_field.ensures
+    (prints_both (omega (arith, u, wide-field-short c.args.entry 32)) c.write_field-2.ensures c.write_field-3.ensures)))

@@ -11,7 +11,7 @@ get32-requires c = omega (arith, four_left _ c.requires c.if-v-eq1.false)
 
 pub returns-then-v-eq1 : goal.returns-then-v-eq1
 returns-then-v-eq1 c =
-    (c.wide.ensures.0 ∙ sym (number_one c.args.v.now c.if-v-eq1.true), search rules)
+    (c.from.ensures ∙ sym (number_one c.args.v.now c.if-v-eq1.true), search rules)
 
 pub returns-else-v-eq1 : goal.returns-else-v-eq1
 returns-else-v-eq1 c =

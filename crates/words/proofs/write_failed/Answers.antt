@@ -1,59 +1,59 @@
 -- `words::write_failed` meets its contract.
 use native.Mathlib.Omega.{arith}
-use mathlib.Core.List.{[], ◌∷◌}
-use lib.ListN.{length-set}
+use mathlib.Core.Path.{ap}
+use lib.ListN.{length}
 use Rattle.octets.specs.Letters.{letters}
+use Rattle.page.proofs.Prints.{room_behind, prints_both}
 use Rattle.text.specs.Lines.{hex}
-use Rattle.text.proofs.Writes.{then_one}
-use Rattle.words.specs.Words.{cause_word}
-use Rattle.words.specs.Lines.{started, failed_line}
-use Rattle.words.proofs.Written.{both, one_and}
+use Rattle.words.specs.Lines.{failed_line}
+use Rattle.words.proofs.Written.{failing_line}
 use Rattle.words.proofs.Short.{started-short, cause-short}
 use Rattle.words.proofs.write_failed.Goals as goal
 
-pub bounds-out-start : goal.bounds-out-start
-bounds-out-start c =
-    omega (arith, started-short c.args.kind.now c.args.name)
+pub write_start-requires : goal.write_start-requires
+write_start-requires c = omega (arith, c.requires, ap length c.word.ensures)
 
-pub overflow_add-start : goal.overflow_add-start
-overflow_add-start c = omega (arith, started-short c.args.kind.now c.args.name)
+pub push-requires : goal.push-requires
+push-requires c =
+    room_behind _ 1 c.requires c.write_start.ensures (omega (arith, ap length c.word.ensures, started-short c.word.result.now c.args.name))
 
-pub write_hex-digits-requires : goal.write_hex-digits-requires
-write_hex-digits-requires c =
-    simp length-set (omega (arith, started-short c.args.kind.now c.args.name))
+pub write_hex-requires : goal.write_hex-requires
+write_hex-requires c =
+    let t = room_behind _ 19 c.requires c.write_start.ensures (omega (arith, ap length c.word.ensures, started-short c.word.result.now c.args.name)) in
+    room_behind 19 2 t c.push.ensures (omega arith)
 
-pub bounds-out-digits : goal.bounds-out-digits
+pub push-requires-2 : goal.push-requires-2
 unfolding hex
-bounds-out-digits c =
-    omega (arith, started-short c.args.kind.now c.args.name, simp length-set at c.write_hex-digits.auto.out)
+push-requires-2 c =
+    let t = room_behind _ 19 c.requires c.write_start.ensures (omega (arith, ap length c.word.ensures, started-short c.word.result.now c.args.name)) in
+    room_behind 18 1 (room_behind 19 18 t c.push.ensures (omega arith)) c.write_hex.ensures (omega arith)
 
-pub overflow_add-digits : goal.overflow_add-digits
+pub write_cause-requires : goal.write_cause-requires
 unfolding hex
-overflow_add-digits c =
-    omega (arith, started-short c.args.kind.now c.args.name, simp length-set at c.write_hex-digits.auto.out)
+write_cause-requires c =
+    let t = room_behind _ 19 c.requires c.write_start.ensures (omega (arith, ap length c.word.ensures, started-short c.word.result.now c.args.name)) in
+    let u = room_behind 18 16 (room_behind 19 18 t c.push.ensures (omega arith)) c.write_hex.ensures (omega arith) in
+    room_behind 16 14 u c.push-2.ensures (omega arith)
 
-pub write_cause-end-requires : goal.write_cause-end-requires
+pub push-requires-3 : goal.push-requires-3
 unfolding hex
-write_cause-end-requires c =
-    simp length-set (omega (arith, started-short c.args.kind.now c.args.name, simp length-set at c.write_hex-digits.auto.out))
-
-pub bounds-out-end : goal.bounds-out-end
-unfolding hex
-bounds-out-end c =
-    omega (arith, started-short c.args.kind.now c.args.name, cause-short c.args.cause, simp length-set at c.write_hex-digits.auto.out, simp length-set at c.write_cause-end.auto.out)
-
-pub overflow_add-result : goal.overflow_add-result
-overflow_add-result c =
-    omega (arith, bounds-out-end c, simp length-set at c.write_hex-digits.auto.out, simp length-set at c.write_cause-end.auto.out)
+push-requires-3 c =
+    let t = room_behind _ 19 c.requires c.write_start.ensures (omega (arith, ap length c.word.ensures, started-short c.word.result.now c.args.name)) in
+    let u = room_behind 18 16 (room_behind 19 18 t c.push.ensures (omega arith)) c.write_hex.ensures (omega arith) in
+    room_behind 15 1 (room_behind 16 15 u c.push-2.ensures (omega arith)) c.write_cause.ensures (omega (arith, cause-short c.args.cause))
 
 pub returns : goal.returns
 unfolding failed_line hex letters
 returns c =
-    let h = started-short c.args.kind.now c.args.name in
-    let k = cause-short c.args.cause in
-    let e = simp length-set at c.write_hex-digits.auto.out in
-    both c.args.out.now (started c.args.kind.now c.args.name) _ c.args.at c.write_start-start.result (omega arith) c.write_start-start.ensures
-    (one_and c.write_start-start.new.out _ c.write_start-start.result 32 (omega arith)
-    (both _ (hex (c.args.cause ∷ [])) _ _ c.write_hex-digits.result (simp length-set (omega arith)) c.write_hex-digits.ensures
-    (one_and c.write_hex-digits.new.out _ c.write_hex-digits.result 32 (omega arith)
-    (then_one _ (cause_word c.args.cause) _ c.write_cause-end.result 10 (simp length-set (omega arith)) c.write_cause-end.ensures.0 c.write_cause-end.ensures.1))))
+    let w = ap length c.word.ensures in
+    let h = started-short c.word.result.now c.args.name in
+    let t = room_behind _ 19 c.requires c.write_start.ensures (omega (arith, w, h)) in
+    let u = room_behind 19 18 t c.push.ensures (omega arith) in
+    let v = room_behind 18 16 u c.write_hex.ensures (omega arith) in
+    let x = room_behind 16 15 v c.push-2.ensures (omega arith) in
+    rw (failing_line _ _, ← c.word.ensures)
+    (prints_both (omega (arith, c.requires, w, h)) c.write_start.ensures
+    (prints_both (omega (arith, t)) c.push.ensures
+    (prints_both (omega (arith, u)) c.write_hex.ensures
+    (prints_both (omega (arith, v)) c.push-2.ensures
+    (prints_both (omega (arith, x, cause-short c.args.cause)) c.write_cause.ensures c.push-3.ensures)))))

@@ -1,32 +1,33 @@
 -- `words::write_held` meets its contract.
+use Prim.Native.Nat.{◌+◌}
 use native.Mathlib.Omega.{arith}
-use mathlib.Core.Path.{ap, ◌∙◌}
-use lib.ListN.{length, length-set}
-use Rattle.meaning.proofs.Lists.{length_part}
+use mathlib.Core.Path.{ap}
+use lib.ListN.{length}
 use Rattle.octets.specs.Letters.{letters}
-use Rattle.octets.proofs.Splices.{part_is}
-use Rattle.words.specs.Lines.{started, held_line}
-use Rattle.words.proofs.Written.{both, one_and}
+use Rattle.page.proofs.Prints.{room_behind, prints_both}
+use Rattle.words.specs.Lines.{held_line}
+use Rattle.words.proofs.Written.{valued_line}
 use Rattle.words.proofs.Short.{started-short}
 use Rattle.words.proofs.write_held.Goals as goal
 
-pub bounds-out-end : goal.bounds-out-end
-bounds-out-end c =
-    omega (arith, started-short c.args.kind.now c.args.name)
+pub write_start-requires : goal.write_start-requires
+write_start-requires c = omega (arith, c.requires, ap length c.word.ensures)
 
-pub overflow_add-end : goal.overflow_add-end
-overflow_add-end c = omega (arith, started-short c.args.kind.now c.args.name)
+pub push-requires : goal.push-requires
+push-requires c =
+    room_behind _ 1 c.requires c.write_start.ensures (omega (arith, ap length c.word.ensures, started-short c.word.result.now c.args.name))
 
 pub write_octets-requires : goal.write_octets-requires
 write_octets-requires c =
-    let e = ap length (part_is c.args.message.now c.args.from c.args.size) ∙ length_part c.args.message.now c.args.from c.args.size c.requires.0 in
-    simp length-set (omega (arith, started-short c.args.kind.now c.args.name, e))
+    let n = length c.args.value.now in
+    let t = room_behind _ (n + n + 3) c.requires c.write_start.ensures (omega (arith, ap length c.word.ensures, started-short c.word.result.now c.args.name)) in
+    room_behind (n + n + 3) _ t c.push.ensures (omega arith)
 
 pub returns : goal.returns
 unfolding held_line letters
 returns c =
-    let w = c.write_octets in
-    let h = started-short c.args.kind.now c.args.name in
-    let e = rw (part_is c.args.message.now c.args.from c.args.size) at w.ensures in
-    both c.args.out.now (started c.args.kind.now c.args.name) _ c.args.at c.write_start-end.result (omega arith) c.write_start-end.ensures
-    (one_and c.write_start-end.new.out _ c.write_start-end.result 32 (omega arith) e)
+    let h = started-short c.word.result.now c.args.name in
+    let w = ap length c.word.ensures in
+    let t = room_behind _ 1 c.requires c.write_start.ensures (omega (arith, w, h)) in
+    rw (valued_line _ _, ← c.word.ensures)
+    (prints_both (omega (arith, c.requires, w, h)) c.write_start.ensures (prints_both (omega (arith, t)) c.push.ensures c.write_octets.ensures))

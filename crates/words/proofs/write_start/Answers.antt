@@ -1,29 +1,29 @@
 -- `words::write_start` meets its contract.
 use native.Mathlib.Omega.{arith}
-use lib.ListN.{length-set}
 use Rattle.meaning.specs.Octets.{be16}
 use Rattle.octets.specs.Letters.{letters}
+use Rattle.page.proofs.Prints.{room_behind, prints_both}
 use Rattle.text.specs.Lines.{hex}
 use Rattle.words.specs.Lines.{started}
-use Rattle.words.proofs.Written.{both, one_and}
 use Rattle.words.proofs.write_start.Goals as goal
 
-pub bounds-out-end : goal.bounds-out-end
-unfolding hex
-bounds-out-end c = omega arith
+pub write_hex-requires : goal.write_hex-requires
+write_hex-requires c = room_behind _ _ c.requires c.print.ensures (omega arith)
 
-pub overflow_add-end : goal.overflow_add-end
+pub push-requires : goal.push-requires
 unfolding hex
-overflow_add-end c = omega arith
+push-requires c = room_behind 34 1 (room_behind _ 34 c.requires c.print.ensures (omega arith)) c.write_hex.ensures (omega arith)
 
 pub write_word-requires : goal.write_word-requires
 unfolding hex
-write_word-requires c = simp length-set (omega arith)
+write_word-requires c =
+    let t = room_behind 34 30 (room_behind _ 34 c.requires c.print.ensures (omega arith)) c.write_hex.ensures (omega arith) in
+    room_behind 30 29 t c.push.ensures (omega arith)
 
 pub returns : goal.returns
 unfolding started hex be16 letters
 returns c =
-    let w = c.write_word in
-    both c.args.out.now c.args.kind.now _ c.args.at c.append-digits.result (omega arith) c.append-digits.ensures
-    (both c.append-digits.new.out _ _ c.append-digits.result c.write_hex-end.result (omega arith) c.write_hex-end.ensures
-    (one_and c.write_hex-end.new.out _ c.write_hex-end.result 32 (omega arith) w.ensures))
+    let t = room_behind _ 34 c.requires c.print.ensures (omega arith) in
+    let u = room_behind 34 30 t c.write_hex.ensures (omega arith) in
+    prints_both (omega (arith, c.requires)) c.print.ensures
+    (prints_both (omega (arith, t)) c.write_hex.ensures (prints_both (omega (arith, u)) c.push.ensures c.write_word.ensures))

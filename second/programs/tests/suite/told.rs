@@ -183,7 +183,7 @@ fn examples_print_what_the_documents_tell() {
 #[test]
 fn what_is_no_example_is_told() {
     let example = "```console\n$ printf 'a\\nb\\n'\na  # first\nb\n$ cd docs && \\\n  ls LAWS.md\nLAWS.md\n$ ls TRACE.md\nTRACE.md\n```\n";
-    let code = "```rust\nfn main(rt: HostRuntime) {\nlet mut memory = [0u8; endpoint::MEMORY_LENGTH];\n```\n";
+    let code = "```rust\nfn main(rt: HostRuntime) {\nlet mut bridge = Bridge {\nmemory: [0u8; endpoint::MEMORY_LENGTH],\n```\n";
     let place = "In `crates/bridge/src/main.rt`:\n";
     let examples = checked(&format!("# A\n\n{example}\n{place}\n{code}")).unwrap();
     assert_eq!(examples[1].command, "cd docs && \\\n  ls LAWS.md");

@@ -1,2 +1,0 @@
--- Laws of what the program holds and answers.
-pub mod Frames

@@ -1,0 +1,2 @@
+-- What the contracts of `memory` cite beside `meaning`.
+pub mod Flags

@@ -1,0 +1,2 @@
+-- What is printed on a page one after another.
+pub mod Prints

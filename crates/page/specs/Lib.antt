@@ -1,0 +1,2 @@
+-- What the contracts say of a page.
+pub mod Printing

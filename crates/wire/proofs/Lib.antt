@@ -1,0 +1,2 @@
+-- Laws of the causes, which the crates above cite.
+pub mod Causes

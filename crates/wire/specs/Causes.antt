@@ -1,0 +1,16 @@
+-- The causes of the code's enum as octets of `meaning`, and back.
+use Rattle.std.specs.Prelude.{ℕ, cond, eqb}
+use Rattle.meaning.specs.Wire.{cause_not_supported, cause_invalid_value, cause_unavailable, cause_protocol_error}
+use Rattle.wire.specs.declared.Cause.{Cause}
+use Rattle.wire.specs.declared.Cause.TheVariants.{NotSupported, InvalidValue, Unavailable, ProtocolError}
+
+-- the octet that a cause has in a record
+unfoldable pub octet_of : Cause → ℕ
+octet_of NotSupported = cause_not_supported
+octet_of InvalidValue = cause_invalid_value
+octet_of Unavailable = cause_unavailable
+octet_of ProtocolError = cause_protocol_error
+
+-- the cause that an octet tells; any octet but the three others tells a protocol error
+unfoldable pub cause_of : ℕ → Cause
+cause_of c = cond (eqb c cause_not_supported) NotSupported (cond (eqb c cause_invalid_value) InvalidValue (cond (eqb c cause_unavailable) Unavailable ProtocolError))

@@ -1,0 +1,2 @@
+-- What the contracts of `wire` cite beside `meaning`.
+pub mod Causes

@@ -1,8 +1,0 @@
--- `words::write_read_error` meets its contract.
-use Rattle.octets.specs.Letters.{letters}
-use Rattle.words.specs.Lines.{record_line}
-use Rattle.words.proofs.write_read_error.Goals as goal
-
-pub returns : goal.returns
-unfolding record_line letters
-returns c = c.write_failed.ensures
