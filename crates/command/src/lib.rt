@@ -95,16 +95,17 @@ fn put_value(m: &mut Memory, k: usize, v: &[u8]) -> bool
 
 // A set of a value in full, as memory has it and as Release 18 sends it. The value is told by its place in what is lent, and not as a
 // slice of its own: that would be copied on its way to `table::permits`, and the copy would wait until both halves of it are
-// stored (DECISIONS 212).
-fn set_full(m: &mut Memory, s: &[u8], v: NamedValue) -> Result<(), Cause>
-    requires { (sound m.old ≡ true) × (v.from + v.size ≤ length s.now) }
-    ensures { (failed_check result ≡ first_failed (set_checks release18 m.old v.name (part s.now v.from v.size))) × (m.new ≡ set_memory release18 m.old v.name (part s.now v.from v.size)) }
+// stored (DECISIONS 212). Its name and place are three numbers, and no `NamedValue`: this function is not inlined, so its callers
+// would copy a struct in the same way, onto the stack of a message.
+fn set_full(m: &mut Memory, s: &[u8], name: usize, from: usize, size: usize) -> Result<(), Cause>
+    requires { (sound m.old ≡ true) × (from + size ≤ length s.now) }
+    ensures { (failed_check result ≡ first_failed (set_checks release18 m.old name (part s.now from size))) × (m.new ≡ set_memory release18 m.old name (part s.now from size)) }
 {
-    let k = listed_place(v.name, wire::RELEASE_18).ok_or(Cause::NotSupported)?;
+    let k = listed_place(name, wire::RELEASE_18).ok_or(Cause::NotSupported)?;
     if table::row_at(k).owner != Owner::Controller {
         return Err(Cause::ProtocolError);
     }
-    if !put_value(m, k, &s[v.from..v.from + v.size]) {
+    if !put_value(m, k, &s[from..from + size]) {
         return Err(Cause::InvalidValue);
     }
     Ok(())
@@ -121,18 +122,13 @@ fn set_16(m: &mut Memory, list: &[u8], v: NamedValue) -> Result<(), Cause>
         return Err(Cause::ProtocolError);
     }
     if table::spared(wire::RELEASE_16, k) == 0 {
-        return set_full(m, list, v);
+        return set_full(m, list, v.name, v.from, v.size);
     }
     if v.size != 2 {
         return Err(Cause::InvalidValue);
     }
     let full = [0, 0, list[v.from], list[v.from + 1]];
-    let value = NamedValue {
-        name: v.name,
-        from: 0,
-        size: 4,
-    };
-    set_full(m, &full, value)
+    set_full(m, &full, v.name, 0, 4)
 }
 
 // A set: its cause where it is refused.
@@ -143,7 +139,7 @@ fn set(m: &mut Memory, list: &[u8], v: NamedValue, profile: u8) -> Result<(), Ca
     if profile == wire::RELEASE_16 {
         return set_16(m, list, v);
     }
-    set_full(m, list, v)
+    set_full(m, list, v.name, v.from, v.size)
 }
 
 // The mark set; nothing on an unlisted name.

@@ -13,7 +13,7 @@ use Rattle.command.proofs.set_full.Goals as goal
 use Rattle.command.proofs.set_full.Goals.{After-ne, In_ok-k}
 
 -- the place is that of the name, which is listed
-at_place : (c : In_ok-k) → (lists release18 c.in_ok-k.k ≡ true) × (c.in_ok-k.k ≡ place c.args.v.name)
+at_place : (c : In_ok-k) → (lists release18 c.in_ok-k.k ≡ true) × (c.in_ok-k.k ≡ place c.args.name)
 at_place c = place_listed _ _ _ (sym c.in_ok-k.ensures.ok_part ∙ c.listed_place.ensures)
 
 turned : (b : Bool) {a : Bool} → a ≡ not b → b ≡ not a
@@ -31,7 +31,7 @@ returns-in_err-k c =
     let a = c.args in
     let r = err_from_is_err_and c.from_residual.result c.from_residual.ensures.1 in
     let e = not_listed _ _ _ _ _ c.listed_place.ensures c.in_err-k.ensures.value in
-    rw (r.1, r.2, e.1) (set_unlisted release18 a.m.now a.v.name _ e.0)
+    rw (r.1, r.2, e.1) (set_unlisted release18 a.m.now a.name _ e.0)
 
 pub returns-then-ne : goal.returns-then-ne
 unfolding failed_check octet_of
@@ -39,7 +39,7 @@ returns-then-ne c =
     let places = goal.at.returns-then-ne c in
     let a = c.args in
     let e = at_place places.In_ok-k in
-    set_foreign release18 a.m.now a.v.name _ _ e.1 e.0 (controls places.After-ne ∙ ap not c.if-ne.true)
+    set_foreign release18 a.m.now a.name _ _ e.1 e.0 (controls places.After-ne ∙ ap not c.if-ne.true)
 
 pub put_value-requires : goal.put_value-requires
 put_value-requires c =
@@ -51,8 +51,8 @@ returns-then-not-put_value c =
     let places = goal.at.returns-then-not-put_value c in
     let a = c.args in
     let k = at_place places.In_ok-k in
-    let e = rw (part_is a.s.now a.v.from a.v.size) at c.put_value.ensures in
-    set-refused release18 a.m.now a.v.name _ _ k.1 k.0 (controls places.After-ne ∙ ap not c.if-ne.false) (any_sendable _) e.0 e.1 (c.if-not-put_value.true)
+    let e = rw (part_is a.s.now a.from a.size) at c.put_value.ensures in
+    set-refused release18 a.m.now a.name _ _ k.1 k.0 (controls places.After-ne ∙ ap not c.if-ne.false) (any_sendable _) e.0 e.1 (c.if-not-put_value.true)
 
 pub returns : goal.returns
 unfolding failed_check
@@ -60,5 +60,5 @@ returns c =
     let places = goal.at.returns c in
     let a = c.args in
     let k = at_place places.In_ok-k in
-    let e = rw (part_is a.s.now a.v.from a.v.size) at c.put_value.ensures in
-    set-done release18 a.m.now a.v.name _ _ k.1 k.0 (controls places.After-ne ∙ ap not c.if-ne.false) (any_sendable _) e.0 e.1 (c.if-not-put_value.false)
+    let e = rw (part_is a.s.now a.from a.size) at c.put_value.ensures in
+    set-done release18 a.m.now a.name _ _ k.1 k.0 (controls places.After-ne ∙ ap not c.if-ne.false) (any_sendable _) e.0 e.1 (c.if-not-put_value.false)
