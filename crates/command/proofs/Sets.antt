@@ -9,7 +9,7 @@ use lib.ListN.{length}
 use lib.Dec.{eqb, ltb}
 use borrow.Author.Tests.{ltb-true, eqb-true, ne_eqb, le-leb, lt-leb}
 use Rattle.meaning.specs.Octets.{octet, part, same, every, implies}
-use Rattle.meaning.specs.Checks.{passed, check, first_failed, when_passed}
+use Rattle.meaning.specs.Checks.{first_failed, when_passed}
 use Rattle.meaning.specs.Table.{rows, row_at, place, by_controller, entry_count, memory_length, admin_base_time, admin_control_list_length, admin_control_list, admin_cycle_time, commit}
 use Rattle.meaning.specs.Block.{permits, keeps, joined_block, form_and_fit, sums}
 use Rattle.meaning.specs.Memory.{present, body, pending, in_flight, store, set_marks, four_present, sound}
@@ -226,16 +226,6 @@ module _ (p : ℕ) (m : List ℕ) (n k : ℕ) (v : List ℕ) (e : k ≡ place n)
     pub set-done : t ≡ true → Set p m n v 0 after
     unfolding set_memory set_checks first_failed when_passed listed
     set-done f = rw (q, ← e, h, o, l, sym y ∙ f) (refl, refl)
-
--- its cause is one of three, or none: what holds of each holds of it
-pub set_cause : (P : ℕ → Type 0) → P 0 → P 0x01 → P 0x02 → P 0x6F → (a b c d : Bool)
-    → P (first_failed (check 0x01 a (check 0x6F b (check 0x6F c (check 0x02 d passed)))))
-unfolding first_failed
-set_cause P none unlisted invalid refused true true true true = none
-set_cause P none unlisted invalid refused true true true false = invalid
-set_cause P none unlisted invalid refused true true false d = refused
-set_cause P none unlisted invalid refused true false c d = refused
-set_cause P none unlisted invalid refused false b c d = unlisted
 
 -- ---- a set by its profile
 

@@ -6,7 +6,7 @@ use Rattle.meaning.specs.Step.{names, value, read_error, update, update_error, s
 use Rattle.meaning.specs.Step as step
 use Rattle.meaning.specs.Profile.{lists}
 use Rattle.wire.specs.declared.Cause.{Cause}
-use Rattle.wire.specs.Causes.{octet_of, cause_of}
+use Rattle.wire.specs.Causes.{octet_of}
 use Rattle.operation.specs.declared.Op.{Op}
 use Rattle.operation.specs.Handing.{name_of, from_of, size_of}
 use Rattle.command.specs.declared.Answer.{Answer}
@@ -16,9 +16,9 @@ use Rattle.command.specs.declared.Answer.TheVariants.{Names, Value, ReadError, U
 unfoldable pub answer_of : (p : ℕ) → List ℕ → List ℕ → Op → Answer → step.Answer
 answer_of p m s o Names = names
 answer_of p m s o (Value k) = value (name_of o) (shown p m k)
-answer_of p m s o (ReadError c) = read_error (name_of o) (octet_of c)
+answer_of p m s o (ReadError c) = read_error (name_of o) c
 answer_of p m s o Update = update (name_of o) (part s (from_of o) (size_of o))
-answer_of p m s o (UpdateError c) = update_error (name_of o) (octet_of c)
+answer_of p m s o (UpdateError c) = update_error (name_of o) c
 answer_of p m s o Silent = silent
 
 -- a value read lies at a place of the table
@@ -30,19 +30,19 @@ InTable Update = Unit {0}
 InTable (UpdateError c) = Unit {0}
 InTable Silent = Unit {0}
 
--- an answer of `meaning` as the code's: a value by the place of its name, a cause by its octet
+-- an answer of `meaning` as the code's: a value by the place of its name
 unfoldable pub told : step.Answer → Answer
 told names = Names
 told (value n v) = Value (place n)
-told (read_error n c) = ReadError (cause_of c)
+told (read_error n c) = ReadError c
 told (update n v) = Update
-told (update_error n c) = UpdateError (cause_of c)
+told (update_error n c) = UpdateError c
 told silent = Silent
 
--- what a read comes to: the place of its value or a cause, as an answer
+-- what a read comes to: the place of its value or the octet of a cause, as an answer
 unfoldable pub told_read : Result ℕ Cause → Answer
 told_read (Ok k) = Value k
-told_read (Err c) = ReadError c
+told_read (Err c) = ReadError (octet_of c)
 
 -- what a set comes to: the number of the check that fails, which is its cause's octet, 0 where none does
 unfoldable pub failed_check : Result ⊤ Cause → ℕ

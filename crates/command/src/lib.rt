@@ -22,9 +22,9 @@ use wire::Cause;
 pub enum Answer {
     Names,
     Value(u8),
-    ReadError(Cause),
+    ReadError(u8),
     Update,
-    UpdateError(Cause),
+    UpdateError(u8),
     Silent,
 }
 
@@ -161,7 +161,7 @@ fn unsubscribe(m: &mut Memory, name: usize, profile: u8)
 }
 
 // An operation of a list carried out.
-#[tactic(auto, unfolding(meaning::specs::Step::step, meaning::specs::Step::answer, wire::specs::Causes::cause_of, operation::specs::Handing::op_of, crate::specs::Answers::told))]
+#[tactic(auto, unfolding(meaning::specs::Step::step, meaning::specs::Step::answer, wire::specs::Causes::octet_of, operation::specs::Handing::op_of, crate::specs::Answers::told))]
 pub fn carry_out(m: &mut Memory, list: &[u8], op: Op, profile: u8) -> Answer
     requires { (sound m.old ≡ true) × Inside (length list.now) op }
     ensures m_after { m.new ≡ step profile m.old (op_of list.now op) }
@@ -171,11 +171,11 @@ pub fn carry_out(m: &mut Memory, list: &[u8], op: Op, profile: u8) -> Answer
         Op::Capabilities => Answer::Names,
         Op::Read(name) => match read(m, name, profile) {
             Ok(k) => Answer::Value(k),
-            Err(cause) => Answer::ReadError(cause),
+            Err(cause) => Answer::ReadError(u8::from(cause)),
         },
         Op::Set(v) => match set(m, list, v, profile) {
             Ok(()) => Answer::Update,
-            Err(cause) => Answer::UpdateError(cause),
+            Err(cause) => Answer::UpdateError(u8::from(cause)),
         },
         Op::Subscribe(name) => {
             subscribe(m, name, profile);
@@ -185,9 +185,9 @@ pub fn carry_out(m: &mut Memory, list: &[u8], op: Op, profile: u8) -> Answer
             unsubscribe(m, name, profile);
             Answer::Silent
         }
-        Op::SelectiveRead(_) => Answer::ReadError(Cause::ProtocolError),
+        Op::SelectiveRead(_) => Answer::ReadError(u8::from(Cause::ProtocolError)),
         Op::SelectiveSubscribe(_) | Op::SelectiveUnsubscribe(_) => Answer::Silent,
-        Op::DeleteEntry(_) => Answer::UpdateError(Cause::ProtocolError),
+        Op::DeleteEntry(_) => Answer::UpdateError(u8::from(Cause::ProtocolError)),
     }
 }
 

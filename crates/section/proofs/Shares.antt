@@ -14,8 +14,6 @@ use Rattle.meaning.proofs.Lists.{length_part}
 use Rattle.octets.specs.Writing.{Wrote}
 use Rattle.octets.specs.Filling.{fill, Apart, Filled}
 use Rattle.octets.proofs.Splices.{splice-nil}
-use Rattle.wire.specs.declared.Cause.{Cause}
-use Rattle.wire.specs.Causes.{octet_of}
 use Rattle.operation.specs.declared.Op.{Op}
 use Rattle.operation.specs.Handing.{name_of, from_of, size_of}
 use Rattle.records.proofs.Lengths.{held-length, short-length, failed-length}
@@ -79,11 +77,11 @@ module _ (p : ℕ) (m s : List ℕ) (o : Op) (a : Answer) where
   unfolding section answer_of record_of
   value_share e = rw e (one held_octets _)
 
-  read_error_share : {c : Cause} → a ≡ ReadError c → shares p m s o a ReadErrors ≡ failed_octets (record { name = name_of o; cause = octet_of c })
+  read_error_share : {c : ℕ} → a ≡ ReadError c → shares p m s o a ReadErrors ≡ failed_octets (record { name = name_of o; cause = c })
   unfolding section answer_of record_of
   read_error_share e = rw e (one failed_octets _)
 
-  update_error_share : {c : Cause} → a ≡ UpdateError c → shares p m s o a UpdateErrors ≡ failed_octets (record { name = name_of o; cause = octet_of c })
+  update_error_share : {c : ℕ} → a ≡ UpdateError c → shares p m s o a UpdateErrors ≡ failed_octets (record { name = name_of o; cause = c })
   unfolding section answer_of record_of
   update_error_share e = rw e (one failed_octets _)
 
@@ -102,15 +100,15 @@ module _ (p : ℕ) (m s : List ℕ) (o : Op) (a : Answer) where
     unfolding place_of
     value-fits e = omega (arith, fits_at (place_of c) (shares p m s o a) hi Values h, ap length (value_share e))
 
-    pub read_error-fits : {b : Cause} → a ≡ ReadError b → c.read_errors + 3 ≤ hi
+    pub read_error-fits : {b : ℕ} → a ≡ ReadError b → c.read_errors + 3 ≤ hi
     unfolding place_of
     read_error-fits {b} e =
-        omega (arith, fits_at (place_of c) (shares p m s o a) hi ReadErrors h, ap length (read_error_share e), failed-length (record { name = name_of o; cause = octet_of b }))
+        omega (arith, fits_at (place_of c) (shares p m s o a) hi ReadErrors h, ap length (read_error_share e), failed-length (record { name = name_of o; cause = b }))
 
-    pub update_error-fits : {b : Cause} → a ≡ UpdateError b → c.update_errors + 3 ≤ hi
+    pub update_error-fits : {b : ℕ} → a ≡ UpdateError b → c.update_errors + 3 ≤ hi
     unfolding place_of
     update_error-fits {b} e =
-        omega (arith, fits_at (place_of c) (shares p m s o a) hi UpdateErrors h, ap length (update_error_share e), failed-length (record { name = name_of o; cause = octet_of b }))
+        omega (arith, fits_at (place_of c) (shares p m s o a) hi UpdateErrors h, ap length (update_error_share e), failed-length (record { name = name_of o; cause = b }))
 
     pub short-fits : a ≡ Update → from_of o + size_of o ≤ length s → size_of o ≤ 255 → c.updates + (3 + size_of o) ≤ hi
     unfolding place_of
@@ -141,13 +139,13 @@ module _ (p : ℕ) (m s : List ℕ) (o : Op) (a : Answer) (c : Places) (out : Li
     value-put {q} e w =
         rw e (filled c _ (shares p m s o (Value q)) out out' (w.1 ∙ simp (splice-nil, append-nil)) (rw w.0 (simp (add-zero, append-nil))))
 
-    pub read_error-put : {b : Cause} → a ≡ ReadError b → Wrote out c.read_errors (failed_octets (record { name = name_of o; cause = octet_of b })) end out'
+    pub read_error-put : {b : ℕ} → a ≡ ReadError b → Wrote out c.read_errors (failed_octets (record { name = name_of o; cause = b })) end out'
         → Put (record { values = c.values; read_errors = end; updates = c.updates; update_errors = c.update_errors; long_updates = c.long_updates })
     unfolding fill order section answer_of record_of flat advance place_of
     read_error-put {b} e w =
         rw e (filled c _ (shares p m s o (ReadError b)) out out' (w.1 ∙ simp (splice-nil, append-nil)) (rw w.0 (simp (add-zero, append-nil))))
 
-    pub update_error-put : {b : Cause} → a ≡ UpdateError b → Wrote out c.update_errors (failed_octets (record { name = name_of o; cause = octet_of b })) end out'
+    pub update_error-put : {b : ℕ} → a ≡ UpdateError b → Wrote out c.update_errors (failed_octets (record { name = name_of o; cause = b })) end out'
         → Put (record { values = c.values; read_errors = c.read_errors; updates = c.updates; update_errors = end; long_updates = c.long_updates })
     unfolding fill order section answer_of record_of flat advance place_of
     update_error-put {b} e w =

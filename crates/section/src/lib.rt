@@ -121,8 +121,7 @@ impl Places {
                 self.values = write_value(m, k as usize, name, known, out, self.values, profile);
             }
             Answer::ReadError(cause) => {
-                let octet = u8::from(cause);
-                self.read_errors = records::write_failed(out, self.read_errors, name, octet);
+                self.read_errors = records::write_failed(out, self.read_errors, name, cause);
             }
             Answer::Update => {
                 let from = op.start();
@@ -134,8 +133,7 @@ impl Places {
                 }
             }
             Answer::UpdateError(cause) => {
-                let octet = u8::from(cause);
-                self.update_errors = records::write_failed(out, self.update_errors, name, octet);
+                self.update_errors = records::write_failed(out, self.update_errors, name, cause);
             }
             Answer::Names | Answer::Silent => {}
         }

@@ -13,7 +13,6 @@ use Rattle.meaning.specs.Step.{step, answer, answers, after, shown}
 use Rattle.meaning.specs.Reply.{kinds, held, record_of, gathered, failed_octets}
 use Rattle.meaning.specs.Calls.{records}
 use Rattle.meaning.proofs.Lists.{length_part}
-use Rattle.wire.specs.Causes.{octet_of}
 use Rattle.operation.specs.declared.Op.{Op}
 use Rattle.operation.specs.Handing.{op_of, name_of, from_of, size_of, Inside, Handed, handed}
 use Rattle.operation.proofs.Turns.{HandsOut, NoOperation, inside-value}
@@ -53,7 +52,7 @@ told_light p m s o (Value k) h i t =
       long_updates = none_light;
     }
 told_light p m s o (ReadError c) h i t =
-    record { values = none_light; read_errors = failed_light (name_of o) (octet_of c); updates = none_light; update_errors = none_light; long_updates = none_light }
+    record { values = none_light; read_errors = failed_light (name_of o) c; updates = none_light; update_errors = none_light; long_updates = none_light }
 told_light p m s o Update h i t = go (leb (length v) 255)
   where
     v : List ℕ
@@ -68,7 +67,7 @@ told_light p m s o Update h i t = go (leb (length v) 255)
     go false =
         record { values = none_light; read_errors = none_light; updates = none_light; update_errors = none_light; long_updates = (omega arith, omega (arith, held-octets (name_of o) v, l)) }
 told_light p m s o (UpdateError c) h i t =
-    record { values = none_light; read_errors = none_light; updates = none_light; update_errors = failed_light (name_of o) (octet_of c); long_updates = none_light }
+    record { values = none_light; read_errors = none_light; updates = none_light; update_errors = failed_light (name_of o) c; long_updates = none_light }
 told_light p m s o Silent h i t = record { values = none_light; read_errors = none_light; updates = none_light; update_errors = none_light; long_updates = none_light }
 
 -- ---- the loop

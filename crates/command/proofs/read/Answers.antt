@@ -6,8 +6,7 @@ use Rattle.std.proofs.lemmas.Result.{err_from_is_err_and}
 use Rattle.meaning.specs.Table.{place}
 use Rattle.meaning.specs.Memory.{present}
 use Rattle.meaning.specs.Profile.{lists}
-use Rattle.wire.specs.Causes.{cause_of}
-use Rattle.wire.proofs.Causes.{cause_back}
+use Rattle.wire.specs.Causes.{octet_of}
 use Rattle.command.specs.declared.Answer.TheVariants.{Value, ReadError}
 use Rattle.command.specs.Answers.{told, told_read}
 use Rattle.command.proofs.Sets.{lists-place, place_listed, not_listed, read_unlisted, read-absent, read-value}
@@ -23,7 +22,7 @@ module _ (c : In_ok-k) where
   listed = rw at_place.1 at at_place.0
 
 pub returns-in_err-k : goal.returns-in_err-k
-unfolding told told_read cause_of
+unfolding told told_read octet_of
 returns-in_err-k c =
     let a = c.args in
     let r = err_from_is_err_and c.from_residual.result c.from_residual.ensures.1 in
@@ -40,7 +39,7 @@ returns-then-not-has c =
     let places = goal.at.returns-then-not-has c in
     let e = at_place places.In_ok-k in
     let q : present a.m.now (place a.name) ≡ false = rw e.1 at (sym c.has.ensures ∙ c.if-not-has.true) in
-    ap ReadError (sym (cause_back c.absent_cause.result) ∙ ap cause_of c.absent_cause.ensures) ∙ sym (ap told (read-absent a.profile a.m.now a.name (listed places.In_ok-k) q))
+    ap ReadError c.absent_cause.ensures ∙ sym (ap told (read-absent a.profile a.m.now a.name (listed places.In_ok-k) q))
 
 pub overflow_cast-result : goal.overflow_cast-result
 overflow_cast-result c =

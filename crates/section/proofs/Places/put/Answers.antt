@@ -92,11 +92,11 @@ returns-in-Value c =
 
 pub returns-in-ReadError : goal.returns-in-ReadError
 returns-in-ReadError c =
-    read_error-put _ c.args.m.now c.args.list.now c.args.op c.args.a c.args.self.now c.args.out.now _ _ c.in-ReadError.is (rw (c.name-name.ensures, c.from-octet.ensures) at c.write_failed-self.ensures)
+    read_error-put _ c.args.m.now c.args.list.now c.args.op c.args.a c.args.self.now c.args.out.now _ _ c.in-ReadError.is (rw c.name-name.ensures at c.write_failed-self.ensures)
 
 pub returns-in-UpdateError : goal.returns-in-UpdateError
 returns-in-UpdateError c =
-    update_error-put _ c.args.m.now c.args.list.now c.args.op c.args.a c.args.self.now c.args.out.now _ _ c.in-UpdateError.is (rw (c.name-name.ensures, c.from-octet-in-UpdateError.ensures) at c.write_failed-self-in-UpdateError.ensures)
+    update_error-put _ c.args.m.now c.args.list.now c.args.op c.args.a c.args.self.now c.args.out.now _ _ c.in-UpdateError.is (rw c.name-name.ensures at c.write_failed-self-in-UpdateError.ensures)
 
 pub returns-in-Names : goal.returns-in-Names
 returns-in-Names c =
