@@ -2,6 +2,7 @@
 use Prim.Native.Nat.{ℕ, ◌≤◌, ◌<◌}
 use native.Mathlib.Omega.{arith}
 use mathlib.Core.Path.{◌≡◌, refl, sym, ap, ◌∙◌, subst}
+use mathlib.Core.Logic.{◌⊎◌, inl, inr}
 use Rattle.std.specs.Prelude.{Some, None, Ok, Err}
 use mathlib.Core.Bool.{true, false≢true}
 use mathlib.Core.List.{List, [], ◌∷◌}
@@ -12,7 +13,7 @@ use Rattle.meaning.specs.Operation as operation
 use Rattle.meaning.specs.Step.{step, after}
 use Rattle.meaning.proofs.Kept.{step-sound}
 use Rattle.operation.specs.declared.Op.{Op}
-use Rattle.operation.specs.Handing.{op_of, Inside, Handed, handed}
+use Rattle.operation.specs.Handing.{op_of, Inside, Handed, handed, refused, ended}
 use Rattle.operation.proofs.Turns.{HandsOut, NoOperation, turn-malformed, turn_end, turn-whole, turn_ops}
 
 -- the operations from a position on
@@ -34,6 +35,12 @@ none_left : (p : ℕ) (list : List ℕ) (at : ℕ) (h : Handed) → is_some (par
 none_left p list at (Ok (Some n)) w e k = absurd (k n.op n.behind refl)
 none_left p list at (Ok None) w e k = ap or_none (turn_end p list at e.0)
 none_left p list at (Err q) w e k = absurd (false≢true (sym (ap is_some (turn-malformed p list at q.position e.0)) ∙ w))
+
+-- the case of what is handed out where it is no operation
+pub not_operation : (h : Handed) → NoOperation h → ((q : ℕ) × (h ≡ refused q)) ⊎ (h ≡ ended)
+not_operation (Ok (Some n)) k = absurd (k n.op n.behind refl)
+not_operation (Ok None) k = inr refl
+not_operation (Err e) k = inl (e.position, refl)
 
 module _ (p : ℕ) (m list copy : List ℕ) (at : ℕ) (u : Under p m list copy at) (h : Handed) (hands : HandsOut p list at h) where
   pub under_end : NoOperation h → (rest p list at ≡ []) × (copy ≡ after p m (rest p list 0))
