@@ -23,10 +23,10 @@ use Rattle.meaning.proofs.Numbers.{Taken, Measured, length-right}
 use Rattle.octets.proofs.Splices.{part_is}
 use Rattle.std.specs.Prelude.{Ok, Err}
 use Rattle.endpoint.specs.declared.Done.{Done}
-use Rattle.endpoint.specs.declared.Done.TheVariants.{Written}
+use Rattle.endpoint.specs.declared.Done.TheVariants.{Written, SendAgain, GivenUp}
 use Rattle.endpoint.specs.declared.Refusal.{Refusal}
-use Rattle.endpoint.specs.declared.Refusal.TheVariants.{OperationMalformed}
-use Rattle.endpoint.specs.Outcomes.{number_of, length_of, position_of, Gives, reply, command, acknowledgement}
+use Rattle.endpoint.specs.declared.Refusal.TheVariants.{MemoryUnsound, MessageEmpty, MessageTooLong, TypeUnknown, LengthWrong, OperationMalformed, ReplyDoesNotFit, Idle, NothingPending, AlreadyWaiting, NotificationRoomTooSmall, NotPermitted, ProfileUnknown}
+use Rattle.endpoint.specs.Outcomes.{Outcome, number_of, length_of, position_of, Gives, reply, command, acknowledgement}
 
 -- a refusal: the number, and nothing changed
 pub gives_number : (m room : List ℕ) (n : ℕ) (why : Refusal) {o : calls.Outcome} → o ≡ number_only n m room → number_of (Err why) ≡ n → position_of (Err why) ≡ 0 → Gives o (Err why) m room
@@ -111,6 +111,30 @@ module _ (p : ℕ) (m room : List ℕ) (s : sound_in p m ≡ true) (h : 1600 ≤
   pub build_nothing : nonempty (reports p m entry_count) ≡ false → build p m room ≡ number_only 9 m room
   unfolding build build_checks call first_failed when_passed
   build_nothing n = simp (s, le-leb 1600 (length room) h, w, n)
+
+-- ---- what is said of an outcome
+
+pub nothing_written : (r : Outcome) → ((n : ℕ) → r ≡ Ok (Written n) → ⊥) → length_of r ≡ 0
+nothing_written (Ok (Written n)) t = absurd (t n refl)
+nothing_written (Ok SendAgain) t = refl
+nothing_written (Ok GivenUp) t = refl
+nothing_written (Err why) t = refl
+
+pub nowhere : (r : Outcome) → ((p : ℕ) → r ≡ Err (OperationMalformed p) → ⊥) → position_of r ≡ 0
+nowhere (Ok d) t = refl
+nowhere (Err MemoryUnsound) t = refl
+nowhere (Err MessageEmpty) t = refl
+nowhere (Err MessageTooLong) t = refl
+nowhere (Err TypeUnknown) t = refl
+nowhere (Err LengthWrong) t = refl
+nowhere (Err (OperationMalformed p)) t = absurd (t p refl)
+nowhere (Err ReplyDoesNotFit) t = refl
+nowhere (Err Idle) t = refl
+nowhere (Err NothingPending) t = refl
+nowhere (Err AlreadyWaiting) t = refl
+nowhere (Err NotificationRoomTooSmall) t = refl
+nowhere (Err NotPermitted) t = refl
+nowhere (Err ProfileUnknown) t = refl
 
 -- one octet written at the room's start
 pub first-set : (room : List ℕ) (x : ℕ) → 1 ≤ length room → set room 0 x ≡ (x ∷ []) ++ drop 1 room

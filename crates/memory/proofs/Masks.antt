@@ -1,11 +1,12 @@
 -- Flags kept by masks: what a mask makes of an octet of flags is what the flags say one by one. A mask is tried on the sixteen octets that there are.
-use Prim.Native.Nat.{ℕ, ◌+◌, ◌*◌, ◌/◌, ◌%◌}
+use Prim.Native.Nat.{ℕ, ◌+◌, ◌*◌, ◌/◌, ◌%◌, ◌≤◌}
 use native.Mathlib.Omega.{arith}
-use mathlib.Core.Path.{◌≡◌, refl, ap, ◌∙◌}
-use mathlib.Core.Bool.{Bool, true, false, ◌&&◌, ◌||◌}
+use native.Mathlib.Decide.{dec_le}
+use mathlib.Core.Path.{◌≡◌, refl, sym, ap, ◌∙◌}
+use mathlib.Core.Bool.{Bool, true, false, ◌&&◌, ◌||◌, not}
 use mathlib.Core.List.{List, [], ◌∷◌}
-use lib.Dec.{eqb}
-use borrow.Author.Tests.{eqb-true}
+use lib.Dec.{eqb, ltb}
+use borrow.Author.Tests.{eqb-true, eq-eqb, ne_eqb, lt-ltb, le-ltb}
 use Rattle.meaning.specs.Octets.{octet, below, splice}
 use Rattle.meaning.specs.Memory.{present, subscribed, pending, in_flight, bit, flags, set_marks}
 use Rattle.meaning.proofs.Tests.{below_at}
@@ -69,3 +70,11 @@ unsubscribe-flags m k e = rw e (masked (λ f. f % 2) (λ p _ _ _. flags p false 
 pub marks_set : (m : List ℕ) (k : ℕ) (s q i : Bool) {f : ℕ} {m' : List ℕ} → m' ≡ splice m (6 * k + 2) (f ∷ []) → f ≡ flags (present m k) s q i → m' ≡ set_marks m k s q i
 unfolding set_marks
 marks_set m k s q i w e = w ∙ ap (λ (x : ℕ). splice m (6 * k + 2) (x ∷ [])) e
+
+-- in flight is the highest flag, so the others alone are below it
+pub none_high : (m : List ℕ) (k : ℕ) → ltb (octet m (6 * k + 2) % 16) 8 ≡ not (in_flight m k)
+none_high m k = go (dec_le 8 (octet m (6 * k + 2) % 16))
+  where
+    go : Dec (8 ≤ octet m (6 * k + 2) % 16) → ltb (octet m (6 * k + 2) % 16) 8 ≡ not (in_flight m k)
+    go (yes h) = le-ltb (octet m (6 * k + 2) % 16) 8 h ∙ ap not (sym ((flag_bits m k).3 ∙ eq-eqb (octet m (6 * k + 2) / 8 % 2) 1 (omega (arith, h))))
+    go (no h) = lt-ltb (octet m (6 * k + 2) % 16) 8 (omega (arith, h)) ∙ ap not (sym ((flag_bits m k).3 ∙ ne_eqb (octet m (6 * k + 2) / 8 % 2) 1 (omega (arith, h))))

@@ -10,9 +10,9 @@ use Rattle.meaning.specs.Calls.{Outcome, number_only}
 use Rattle.meaning.specs.FormB.{behind, sound_form_b}
 use Rattle.meaning.proofs.Formed.{form_opened, sound-form}
 use Rattle.meaning.proofs.Moved.{moved}
-use Rattle.std.specs.Prelude.{Ok, Err}
+use Rattle.std.specs.Prelude.{Result, Ok, Err}
 use Rattle.moves.specs.declared.Refusal.{Refusal}
-use Rattle.moves.specs.Moved.{number_of, Gives}
+use Rattle.moves.specs.Moved.{number_of, length_of, Gives}
 
 -- memory that is sound in form B has 2,101 octets, whatever its profile, and 2,100 of them stand behind that
 pub form-long : (b : List ℕ) → sound_form_b b ≡ true → length b ≡ 2101
@@ -36,3 +36,8 @@ filled_behind x [] m h = absurd (omega (arith, h))
 filled_behind x (y ∷ room) m h =
     ap (λ (t : List ℕ). x ∷ m ++ t) (drop_of_length-le (x ∷ room) {i = 1 + length m} (omega (arith, h)))
     ∙ ap (λ (t : List ℕ). x ∷ t) (append-nil m)
+
+-- an answer that is not done wrote nothing
+pub nothing_written : (r : Result ℕ Refusal) → ((n : ℕ) → r ≡ Ok n → ⊥) → length_of r ≡ 0
+nothing_written (Ok n) t = absurd (t n refl)
+nothing_written (Err why) t = refl
