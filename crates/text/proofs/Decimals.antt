@@ -91,7 +91,7 @@ decimal_wide : (n : ℕ) → n < 100 → wide_decimal n ≡ decimal n
 unfolding wide_decimal
 decimal_wide n h = two_digits 18 n h
 
-long_wide : (n : ℕ) → n < 10000 → wide_decimal n ≡ long_decimal n
+pub long_wide : (n : ℕ) → n < 10000 → wide_decimal n ≡ long_decimal n
 unfolding wide_decimal long_decimal
 long_wide n h = at (ltb n 100) refl
   where

@@ -9,7 +9,7 @@ use lib.ListN.{length, get_or, drop, set, length-append, drop_of_length-le}
 use lib.Seq.{drop-cons}
 use lib.Dec.{ltb, eqb}
 use lib.Bits.{bit_and, and_le_r}
-use borrow.Author.Tests.{ltb-true, ltb-false}
+use borrow.Author.Tests.{ltb-true, ltb-false, lt-ltb, le-ltb}
 use Rattle.std.proofs.lemmas.Bool.{eqb-true}
 use Rattle.meaning.specs.Octets.{splice}
 use Rattle.octets.proofs.Splices.{splice-nil, two_stores, splice-splice}
@@ -54,6 +54,16 @@ pub hex_end : (out src : List ℕ) (to i : ℕ) → length src ≤ i → splice 
 unfolding hex
 hex_end out src to i h = rw (drop_of_length-le src h) (splice-nil out to)
 
+-- ---- a number under 100
+
+pub decimal_one : (n a : ℕ) → n < 10 → a ≡ digit n → decimal n ≡ a ∷ []
+unfolding decimal
+decimal_one n a h e = rw (lt-ltb n 10 h, e)
+
+pub decimal_two : (n a b : ℕ) → 10 ≤ n → a ≡ digit (n / 10) → b ≡ digit (n % 10) → decimal n ≡ a ∷ b ∷ []
+unfolding decimal
+decimal_two n a b h e f = rw (le-ltb n 10 h, e, f)
+
 -- ---- octets shown
 
 pub shown_none : (s : List ℕ) → true ≡ eqb (length s) 0 → shown_octets s ≡ 45 ∷ []
@@ -90,6 +100,17 @@ unfolding line
 line-short n s = simp length-append (omega (arith, decimal-short n, octets-short s))
 
 -- ---- a number under 10,000
+
+pub long_one : (n : ℕ) → n < 100 → long_decimal n ≡ decimal n
+unfolding long_decimal
+long_one n h = rw (lt-ltb n 100 h)
+
+pub long_two : (n a b : ℕ) → 100 ≤ n → a ≡ digit (n / 10 % 10) → b ≡ digit (n % 10) → long_decimal n ≡ decimal (n / 100) ++ (a ∷ b ∷ [])
+unfolding long_decimal
+long_two n a b h e f = rw (le-ltb n 100 h, e, f)
+
+pub hundreds-length : (n : ℕ) → 100 ≤ n → length (long_decimal n) ≡ length (decimal (n / 100)) + 2
+hundreds-length n h = rw (long_two n _ _ h refl refl) (simp length-append)
 
 pub long-short : (n : ℕ) → length (long_decimal n) ≤ 4
 unfolding long_decimal

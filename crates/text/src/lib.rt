@@ -3,7 +3,7 @@
 
 ghost use Rattle.std.specs.Prelude.{◌+◌, ◌≤◌, ◌<◌, ◌≡◌, length};
 ghost use Rattle.page.specs.Printing.{HasRoom, Prints};
-ghost use Rattle.text.specs.Lines.{digit, hex, shown_octets, octets_line, line, lent_line, full_line, wide_field, octet_field, open_line};
+ghost use Rattle.text.specs.Lines.{digit, hex, decimal, shown_octets, octets_line, line, long_decimal, lent_line, full_line, wide_decimal, wide_field, octet_field, open_line};
 
 use page::Page;
 
@@ -58,14 +58,51 @@ pub fn write_octets(page: &mut Page<'_>, src: &[u8])
     page.push(b'\n');
 }
 
-// A number in decimal, and the character behind it.
+// A number under 100.
+fn write_decimal(page: &mut Page<'_>, number: u64)
+    requires { (number < 100) × HasRoom page.old (length (decimal number)) }
+    ensures { Prints page.old (decimal number) page.new }
+{
+    if number < 10 {
+        page.push(digit(number as u8));
+        return;
+    }
+    page.print(&[digit((number / 10) as u8), digit((number % 10) as u8)]);
+}
+
+// A number under 10,000.
+fn write_long_decimal(page: &mut Page<'_>, number: u64)
+    requires { (number < 10000) × HasRoom page.old (length (long_decimal number)) }
+    ensures { Prints page.old (long_decimal number) page.new }
+{
+    if number < 100 {
+        write_decimal(page, number);
+        return;
+    }
+    write_decimal(page, number / 100);
+    page.print(&[digit((number / 10 % 10) as u8), digit((number % 10) as u8)]);
+}
+
+// A number of 64 bits. The library zeroes a room for twenty digits and counts them, which for four takes longer than they do.
+fn write_wide_decimal(page: &mut Page<'_>, number: u64)
+    requires { HasRoom page.old (length (wide_decimal number)) }
+    ensures { Prints page.old (wide_decimal number) page.new }
+{
+    if number < 10000 {
+        write_long_decimal(page, number);
+        return;
+    }
+    let mut digits = [0u8; 20];
+    let n = io::decimal(number, &mut digits);
+    page.print(&digits[..n]);
+}
+
+// It and the character behind it.
 fn write_field(page: &mut Page<'_>, number: u64, after: u8)
     requires { HasRoom page.old (length (wide_field number after)) }
     ensures { Prints page.old (wide_field number after) page.new }
 {
-    let mut digits = [0u8; 20];
-    let n = io::decimal(number, &mut digits);
-    page.print(&digits[..n]);
+    write_wide_decimal(page, number);
     page.push(after);
 }
 
@@ -75,7 +112,8 @@ pub fn write_lent(page: &mut Page<'_>, lent: usize)
     ensures { Prints page.old (lent_line lent) page.new }
 {
     page.print(b"lent ");
-    write_field(page, lent as u64, b'\n');
+    write_long_decimal(page, lent as u64);
+    page.push(b'\n');
 }
 
 // A line: a number under 100, a space, octets.
@@ -83,7 +121,8 @@ pub fn write_line(page: &mut Page<'_>, number: usize, reply: &[u8])
     requires { (number < 100) × HasRoom page.old (length reply.now + length reply.now + 5) }
     ensures { Prints page.old (line number reply.now) page.new }
 {
-    write_field(page, number as u64, b' ');
+    write_decimal(page, number as u64);
+    page.push(b' ');
     write_octets(page, reply);
 }
 
