@@ -75,7 +75,9 @@ fn write_head(page: &mut Page<'_>, message: &[u8])
     words::write_fixed(page, Fixed::Notify);
 }
 
-// All lines of a message.
+// All lines of a message. Never inlined: in what answers a line it would keep that from being inlined, and each blank line would pay
+// for a call.
+#[inline(never)]
 pub fn tell(page: &mut Page<'_>, message: &[u8])
     requires { HasRoom page.old 98313 }
     ensures { Prints page.old (message_lines message.now) page.new }
