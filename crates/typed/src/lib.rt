@@ -120,29 +120,33 @@ fn paired(h: u8, d: u8) -> Form
     }
 }
 
-// A form after an octet, by what the octet is.
+// A form after an octet, by what the octet is. The octet first: `sign_of` has told its kinds apart already, and a match of both at
+// once would ask for the form ahead of it, with one jump more an octet.
 #[tactic(auto, unfolding(crate::specs::Forms::form_after, crate::specs::Forms::by_sign))]
 fn after(form: Form, sign: Sign) -> Form
     ensures { result ≡ form_after form sign }
 {
-    match (form, sign) {
-        (Form::Blank, Sign::Hex(d)) => Form::Digit(d),
-        (Form::Blank, Sign::Space) => Form::Blank,
-        (Form::Digit(h), Sign::Hex(d)) => paired(h, d),
-        (Form::Digit(h), Sign::Space) if h < 10 => Form::Lead(h),
-        (Form::Lead(n), Sign::Hex(d)) if n == 0 => Form::Half(d),
-        (Form::Lead(n), Sign::Space) => Form::Lead(n),
-        (Form::Lead(n), Sign::Dash) => Form::Refused(usize::from(n)),
-        (Form::Number(_), Sign::Hex(d)) => Form::Half(d),
-        (Form::Number(n), Sign::Space) => Form::Numbered(n),
-        (Form::Numbered(_), Sign::Hex(d)) => Form::Half(d),
-        (Form::Numbered(n), Sign::Space) => Form::Numbered(n),
-        (Form::Numbered(n), Sign::Dash) => Form::Refused(n),
-        (Form::Octets, Sign::Hex(d)) => Form::Half(d),
-        (Form::Octets, Sign::Space) => Form::Octets,
-        (Form::Half(_), Sign::Hex(_)) => Form::Octets,
-        (Form::Refused(n), Sign::Space) => Form::Refused(n),
-        _ => Form::Other,
+    match sign {
+        Sign::Hex(d) => match form {
+            Form::Blank => Form::Digit(d),
+            Form::Digit(h) => paired(h, d),
+            Form::Lead(n) if n == 0 => Form::Half(d),
+            Form::Number(_) | Form::Numbered(_) | Form::Octets => Form::Half(d),
+            Form::Half(_) => Form::Octets,
+            _ => Form::Other,
+        },
+        Sign::Space => match form {
+            Form::Digit(h) if h < 10 => Form::Lead(h),
+            Form::Number(n) => Form::Numbered(n),
+            Form::Digit(_) | Form::Half(_) => Form::Other,
+            _ => form,
+        },
+        Sign::Dash => match form {
+            Form::Lead(n) => Form::Refused(usize::from(n)),
+            Form::Numbered(n) => Form::Refused(n),
+            _ => Form::Other,
+        },
+        Sign::Stray => Form::Other,
     }
 }
 
