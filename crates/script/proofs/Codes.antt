@@ -1,11 +1,12 @@
 -- Codes: which are known, how long their bodies are, what each does, and which call it is.
-use Prim.Native.Nat.{ℕ, zero, suc, ◌≤◌, ◌<◌}
+use Prim.Native.Nat.{ℕ, zero, suc, ◌+◌, ◌≤◌, ◌<◌}
 use native.Mathlib.Omega.{arith}
 use mathlib.Core.Path.{◌≡◌, refl, sym}
 use mathlib.Core.Logic.{◌⊎◌, inl, inr}
 use mathlib.Core.Bool.{Bool, true, false}
 use mathlib.Core.List.{List, [], ◌∷◌}
-use lib.ListN.{length, drop}
+use lib.ListN.{length, drop, get_or-eq_default}
+use lib.Dec.{eqb, leb}
 use borrow.Author.Tests.{leb-true, eqb-true}
 use Rattle.meaning.specs.Octets.{at16}
 use Rattle.meaning.specs.Delay.{delay}
@@ -36,6 +37,34 @@ use Rattle.script.specs.Instructions.{body_right, anew, nanoseconds, instant, ga
 pub reads : (code n : ℕ) (i : Instruction) (b : Bool) → code_of i ≡ code → b ≡ body_right code n → Reads code n (then_some b i)
 reads code n i true e f = (e, sym f)
 reads code n i false e f = sym f
+
+unknown : (code n : ℕ) → 13 ≤ code → body_right code n ≡ false
+unfolding body_right
+unknown code n h =
+    let tests : List Bool = leb n 1 ∷ leb 2 n ∷ leb 2 n ∷ eqb n 2 ∷ eqb n 0 ∷ leb n 2200 ∷ eqb n 0 ∷ eqb n 0 ∷ eqb n 8 ∷ leb 2 n ∷ eqb n 8 ∷ eqb n 2 ∷ eqb n 2 ∷ [] in
+    get_or-eq_default tests false h
+
+beyond : (k code : ℕ) → k ≤ code → (code ≡ k → ⊥) → k + 1 ≤ code
+beyond k code h f = omega arith
+
+-- a code that is none of the thirteen
+pub other : (code n : ℕ) → ((((((((((((Unit {0} × (code ≡ 0 → ⊥)) × (code ≡ 1 → ⊥)) × (code ≡ 2 → ⊥)) × (code ≡ 3 → ⊥)) × (code ≡ 4 → ⊥)) × (code ≡ 5 → ⊥)) × (code ≡ 6 → ⊥)) × (code ≡ 7 → ⊥)) × (code ≡ 8 → ⊥)) × (code ≡ 9 → ⊥)) × (code ≡ 10 → ⊥)) × (code ≡ 11 → ⊥)) × (code ≡ 12 → ⊥) → body_right code n ≡ false
+other code n r =
+    let h0 : 0 ≤ code = omega arith in
+    let h1 = beyond 0 code h0 r.0.0.0.0.0.0.0.0.0.0.0.0.1 in
+    let h2 = beyond 1 code h1 r.0.0.0.0.0.0.0.0.0.0.0.1 in
+    let h3 = beyond 2 code h2 r.0.0.0.0.0.0.0.0.0.0.1 in
+    let h4 = beyond 3 code h3 r.0.0.0.0.0.0.0.0.0.1 in
+    let h5 = beyond 4 code h4 r.0.0.0.0.0.0.0.0.1 in
+    let h6 = beyond 5 code h5 r.0.0.0.0.0.0.0.1 in
+    let h7 = beyond 6 code h6 r.0.0.0.0.0.0.1 in
+    let h8 = beyond 7 code h7 r.0.0.0.0.0.1 in
+    let h9 = beyond 8 code h8 r.0.0.0.0.1 in
+    let h10 = beyond 9 code h9 r.0.0.0.1 in
+    let h11 = beyond 10 code h10 r.0.0.1 in
+    let h12 = beyond 11 code h11 r.0.1 in
+    let h13 = beyond 12 code h12 r.1 in
+    unknown code n h13
 
 -- ---- the profile that memory is made fresh in
 

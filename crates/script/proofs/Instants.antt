@@ -18,7 +18,7 @@ use Rattle.std.specs.Prelude.{Result, Ok, Err}
 use Rattle.gates.specs.declared.Refusal.{Refusal}
 use Rattle.gates.specs.declared.Refusal.TheVariants.{MemoryUnsound, NothingRuns}
 use Rattle.gates.specs.declared.Gates.{Gates}
-use Rattle.gates.specs.declared.Gates.TheVariants.{NotStarted}
+use Rattle.gates.specs.declared.Gates.TheVariants.{NotStarted, Open}
 use Rattle.gates.specs.Answers.{refusal_number, told, answer_of}
 use Rattle.text.specs.Lines.{line}
 use Rattle.text.proofs.Writes.{line-short}
@@ -69,6 +69,13 @@ refused-line (Ok told) t = absurd (t told refl)
 pub not_started-line : (gates_number (answer_of (Ok NotStarted)) < 100) × (gates_line (answer_of (Ok NotStarted)) ≡ line (gates_number (answer_of (Ok NotStarted))) [])
 unfolding told answer_of gates_number gates_line
 not_started-line = (omega arith, refl)
+
+pub not_open : (g : Result Gates Refusal) → ((s k d : ℕ) → g ≡ Ok (Open s k d) → ⊥) → (gates_number (answer_of g) < 100) × (gates_line (answer_of g) ≡ line (gates_number (answer_of g)) [])
+unfolding answer_of refusal_number gates_number gates_line
+not_open (Err MemoryUnsound) t = (omega arith, refl)
+not_open (Err NothingRuns) t = (omega arith, refl)
+not_open (Ok NotStarted) t = not_started-line
+not_open (Ok (Open s k d)) t = absurd (t s k d refl)
 
 pub gates-short : (g : meaning.Gates) → length (gates_line g) ≤ 50
 unfolding gates_line

@@ -1,10 +1,10 @@
 -- Records told one after another: one line more is written, what is left is one record less, and at last nothing is left.
 use Prim.Native.Nat.{ℕ, ◌+◌, ◌*◌, ◌<◌}
 use native.Mathlib.Omega.{arith}
-use mathlib.Core.Path.{◌≡◌, sym, ap, subst}
+use mathlib.Core.Path.{◌≡◌, refl, sym, ap, subst}
 use mathlib.Core.List.{List, [], ◌∷◌}
 use lib.ListN.{length}
-use Rattle.std.specs.Prelude.{Err}
+use Rattle.std.specs.Prelude.{Some, None, Ok, Err}
 use Rattle.meaning.specs.Octets.{flat}
 use Rattle.meaning.specs.Capture.{Capture, OneRecord, in_order}
 use Rattle.page.specs.declared.Page.{Page}
@@ -59,6 +59,12 @@ none_remain s h e = rw e
 pub none_refused : (s : List ℕ) (h : Handed) (x : Refusal) → h ≡ Err x → remaining s h ≡ []
 unfolding remaining
 none_refused s h x e = rw e
+
+pub not_record : (s : List ℕ) (h : Handed) → ((r : Record) (c : Cursor) → h ≡ handed r c → ⊥) → remaining s h ≡ []
+unfolding remaining
+not_record s (Ok (Some h)) t = absurd (t h.0 h.1 refl)
+not_record s (Ok None) t = refl
+not_record s (Err x) t = refl
 
 module _ (s : List ℕ) (start : Page) (first : Handed) (page : Page) (now : Handed) (t : Telling s start first page now) where
   pub telling_end : remaining s now ≡ [] → Prints start (flat record_line (remaining s first)) page

@@ -22,6 +22,30 @@ use Rattle.typed.proofs.Signs.{SmallSign, small_sign}
 
 -- ---- the forms that a `match` does not name
 
+pub no_dash : (f : Form) → ((n : ℕ) → f ≡ Lead n → ⊥) → ((n : ℕ) → f ≡ Numbered n → ⊥) → form_after f Dash ≡ Other
+unfolding form_after by_sign
+no_dash Blank k l = refl
+no_dash (Digit h) k l = refl
+no_dash (Lead n) k l = absurd (k n refl)
+no_dash (Number n) k l = refl
+no_dash (Numbered n) k l = absurd (l n refl)
+no_dash Octets k l = refl
+no_dash (Half h) k l = refl
+no_dash (Refused n) k l = refl
+no_dash Other k l = refl
+
+pub stray_makes_other : (f : Form) → Other ≡ form_after f Stray
+unfolding form_after by_sign
+stray_makes_other Blank = refl
+stray_makes_other (Digit h) = refl
+stray_makes_other (Lead n) = refl
+stray_makes_other (Number n) = refl
+stray_makes_other (Numbered n) = refl
+stray_makes_other Octets = refl
+stray_makes_other (Half h) = refl
+stray_makes_other (Refused n) = refl
+stray_makes_other Other = refl
+
 -- an octet that is no digit completes none
 pub no_digit_completes : (f : Form) (s : Sign) → ((d : ℕ) → s ≡ Hex d → ⊥) → completed f s ≡ []
 unfolding completed
