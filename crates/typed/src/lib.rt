@@ -113,11 +113,12 @@ fn sign_of(c: u8) -> Sign
 fn paired(h: u8, d: u8) -> Form
     ensures { result ≡ paired h d }
 {
-    if (h < 10) & (d < 10) {
-        Form::Number(10 * usize::from(h) + usize::from(d))
-    } else {
-        Form::Octets
+    if h < 10 {
+        if d < 10 {
+            return Form::Number(10 * usize::from(h) + usize::from(d));
+        }
     }
+    Form::Octets
 }
 
 // A form after an octet, by what the octet is. The octet first: `sign_of` has told its kinds apart already, and a match of both at
@@ -170,7 +171,8 @@ fn complete(room: &mut [u8], count: usize, form: Form, d: u8) -> usize
     ensures { Stores room.old count (completed_by form d) result room.new }
 {
     match form {
-        Form::Digit(h) | Form::Half(h) => keep(room, count, h * 16 + d),
+        Form::Digit(h) => keep(room, count, h * 16 + d),
+        Form::Half(h) => keep(room, count, h * 16 + d),
         _ => count,
     }
 }
