@@ -139,8 +139,9 @@ fn after(form: Form, sign: Sign) -> Form
         Sign::Space => match form {
             Form::Digit(h) if h < 10 => Form::Lead(h),
             Form::Number(n) => Form::Numbered(n),
-            Form::Digit(_) | Form::Half(_) => Form::Other,
-            _ => form,
+            Form::Blank | Form::Lead(_) | Form::Numbered(_) | Form::Octets | Form::Refused(_) =>
+                form,
+            _ => Form::Other,
         },
         Sign::Dash => match form {
             Form::Lead(n) => Form::Refused(usize::from(n)),
