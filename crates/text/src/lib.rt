@@ -97,7 +97,7 @@ fn write_wide_decimal(page: &mut Page<'_>, number: u64)
     page.print(&digits[..n]);
 }
 
-// It and the character behind it.
+// A number of 64 bits, and the character behind it.
 fn write_field(page: &mut Page<'_>, number: u64, after: u8)
     requires { HasRoom page.old (length (wide_field number after)) }
     ensures { Prints page.old (wide_field number after) page.new }

@@ -166,7 +166,8 @@ fn keep(room: &mut [u8], count: usize, x: u8) -> usize
     count
 }
 
-// The octet that a digit completes, if any, kept; how many are.
+// The octet that a digit completes, if any, kept; how many are. An arm for a line's first octet and one for those behind it, so
+// that a wrong program can turn one alone.
 fn complete(room: &mut [u8], count: usize, form: Form, d: u8) -> usize
     requires { (length room.old ≡ 4097) × (count ≤ 4097) × Small form × (d < 16) }
     ensures { Stores room.old count (completed_by form d) result room.new }
