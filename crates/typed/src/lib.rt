@@ -109,7 +109,7 @@ fn sign_of(c: u8) -> Sign
     }
 }
 
-// Two digits at a line's start.
+// Two digits at a line's start. Two tests one in the other: with both as one, lines of digits took a fifth longer.
 fn paired(h: u8, d: u8) -> Form
     ensures { result ≡ paired h d }
 {

@@ -1,5 +1,5 @@
--- The causes of the code's enum as octets of `meaning`, and back.
-use Rattle.std.specs.Prelude.{ℕ, cond, eqb}
+-- The causes of the code's enum as octets of `meaning`.
+use Rattle.std.specs.Prelude.{ℕ}
 use Rattle.meaning.specs.Wire.{cause_not_supported, cause_invalid_value, cause_unavailable, cause_protocol_error}
 use Rattle.wire.specs.declared.Cause.{Cause}
 use Rattle.wire.specs.declared.Cause.TheVariants.{NotSupported, InvalidValue, Unavailable, ProtocolError}
@@ -10,7 +10,3 @@ octet_of NotSupported = cause_not_supported
 octet_of InvalidValue = cause_invalid_value
 octet_of Unavailable = cause_unavailable
 octet_of ProtocolError = cause_protocol_error
-
--- the cause that an octet tells; any octet but the three others tells a protocol error
-unfoldable pub cause_of : ℕ → Cause
-cause_of c = cond (eqb c cause_not_supported) NotSupported (cond (eqb c cause_invalid_value) InvalidValue (cond (eqb c cause_unavailable) Unavailable ProtocolError))
